@@ -2,6 +2,7 @@
 ghost use Rattle.std.specs.Prelude.{◌≡◌, ◌≢◌, ◌⊎◌, ◌↔◌, ◌+◌, ◌<◌, ◌≤◌, ◌^◌, [], true, Err, chars, length, option_map, IfSome, IsNone, IsSome, IsSomeAnd};
 ghost use Rattle.ic_lines.specs.Bytes.{IfTold, HasFault};
 ghost use Rattle.ic_run.specs.Desk.{run_status, setting_of, start_book, start_refusal, start_status, texts};
+ghost use Rattle.ic_run.specs.Make.{made_setting};
 ghost use Rattle.ic_share.specs.Desk.{setting};
 ghost use Rattle.ic_share.specs.Share.{AppendsSharedFrom, LeavesSharedFrom};
 
@@ -86,11 +87,7 @@ fn start_named(words: &[String]) -> Option<Start<'_>>
     ensures { option_map setting result ≡ setting_of (texts words.now) }
 {
     if words.is_empty() {
-        return Some(Start {
-            locale: "en",
-            language: "en",
-            zone: "UTC",
-        });
+        return Some(english_start());
     }
     if words.len() != 4 {
         return None;
@@ -103,6 +100,17 @@ fn start_named(words: &[String]) -> Option<Start<'_>>
         language: words[2].as_str(),
         zone: words[3].as_str(),
     })
+}
+
+/// en, en and UTC.
+fn english_start() -> Start<'static>
+    ensures { setting result ≡ made_setting }
+{
+    Start {
+        locale: "en",
+        language: "en",
+        zone: "UTC",
+    }
 }
 
 /// Answers the lines of a source on the new book of a start, and answers the status. The book isn't taken apart: its memory
