@@ -13,7 +13,10 @@ use Rattle.std.specs.Prelude.{◌≢◌, length, nat_eq, Result, encode_utf8_all
 use Rattle.ic_laws.specs.CoreStep.{core_step}
 use Rattle.ic_laws.specs.Lines.{unescaped}
 use Rattle.ic_lines.specs.Reading.{has_line_feed}
-use Rattle.ic_book.specs.Book.{ModelState}
+use Rattle.std.specs.FinMap as finite
+use Rattle.std.specs.Cmp.Lexicographic.{slice_cmp}
+use Rattle.std.specs.Ordering.{nat_cmp}
+use Rattle.ic_book.specs.Book.{Book as Held, IsValidBook, ModelState}
 use Rattle.ic_book.specs.Does.{Made, Never, Refused}
 use Rattle.ic_book.specs.Fields.{no_fields}
 use Rattle.ic_book.specs.Refused.{refusal_of}
@@ -22,6 +25,7 @@ use Rattle.ic_book.specs.declared.error.BookError.{BookError}
 use Rattle.ic_machine.specs.Book.{Book, Stepped, notations_in}
 use Rattle.ic_machine.specs.Refusal.{Refusal}
 use Rattle.ic_run.proofs.DeskLemmas.{empty_list}
+use Rattle.ic_share.specs.Share.{IsKnown, languages_held, shared_by}
 use Rattle.ic_share.specs.Shared.{in_language}
 use Rattle.ic_share.specs.Users.{user_of}
 use Rattle.ic_machine.specs.Reply.{Field, TextField, text_field}
@@ -52,10 +56,10 @@ spelled (c ∷ cs) some = refl
 some_chars : (bytes : List ℕ) → IsUtf8 bytes → nat_eq (length bytes) 0 ≡ false → chars bytes ≢ []
 some_chars bytes u some none = let is : bytes ≡ [] = sym (encodes-chars bytes u) ∙ ap encode_utf8_all none in absurd (let e : nat_eq (length bytes) 0 ≡ true = ap (λ (b : List ℕ). nat_eq (length b) 0) is in cc)
 
-pub spelled_user : {E : Type 0} (bytes : List ℕ) (result : Result (Option (List ℕ)) E) {Q : E → Type 0} → IsUtf8 bytes → nat_eq (length bytes) 0 ≡ false → MatchResult result (λ text. text ≡ unescaped (chars bytes)) Q
+pub spelled_user : {E : Type 0} (bytes : List ℕ) (result : Result (Option (List ℕ)) E) (Q : E → Type 0) → IsUtf8 bytes → nat_eq (length bytes) 0 ≡ false → MatchResult result (λ text. text ≡ unescaped (chars bytes)) Q
     → IfOk result (λ user. user ≡ user_of (chars bytes))
-spelled_user bytes (Ok user) u some h = h ∙ sym (spelled (chars bytes) (some_chars bytes u some))
-spelled_user bytes (Err e) u some h = tt
+spelled_user bytes (Ok user) Q u some h = h ∙ sym (spelled (chars bytes) (some_chars bytes u some))
+spelled_user bytes (Err e) Q u some h = tt
 
 -- a language of the tables is put in force
 step_known : (book : Book) (id : List ℕ) → (notations_in book).knows_language id ≡ true → set_language_step id book ≡ Ok (in_language id book, [])
@@ -102,3 +106,11 @@ empty_told line old new (Err e) is h = tt
 pub empty_left : {E : Type 0} (line : List ℕ) (old new : ModelState) (result : Result (String Global) E) → line ≡ chars [] → IfOk result (λ reply. DoesLine line old new (string_bytes reply)) → OnErr result (new.book ≡ old.book) → whole_of new.book ≡ whole_of old.book
 empty_left line old new (Ok reply) e h k = h.book ∙ ap (λ (d : Book × Reply). d.0) (empty_bad (whole_of old.book) line e)
 empty_left line old new (Err e) is h k = ap whole_of k
+
+-- where no user chose a language, all languages are known
+pub known_at_start : (book : Held) (own : List ℕ) (entries : List (String Global × String Global)) → entries ≡ [] → IsValidBook book → IsKnown (shared_by (record { own = own; languages = languages_held entries }) book)
+known_at_start book own entries none valid = record {
+  own = valid.whole.language;
+  chosen = λ user language e.
+      absurd (let same : finite.get (languages_held entries) user ≡ None = ap (λ (es : List (String Global × String Global)). finite.get (languages_held es) user) none ∙ finite.get-empty (slice_cmp nat_cmp) user in cc);
+}

@@ -1,4 +1,3 @@
-use Rattle.std.proofs.Common.{string_bytes}
 use Rattle.ic_share.proofs.UsersLemmas.{empty_told, empty_left, no_feed}
 use Rattle.ic_share.proofs.users.bad_reply.Goals as goal
 
