@@ -1,5 +1,5 @@
 -- What a run of lines of many users leaves and writes, at its end and after an error.
-use Rattle.std.specs.Prelude.{◌≡◌, refl, ℕ, ◌+◌, ◌≤◌, List, [], String, Bool, true, chars, length, map, option_map, string_bytes, unwrap_or, Option, Some}
+use Rattle.std.specs.Prelude.{◌≡◌, refl, ℕ, ◌+◌, ◌≤◌, List, [], String, true, chars, length, map, string_bytes, Option, Some}
 use Rattle.std.specs.declared.alloc.Global.{Global}
 use Rattle.std.specs.Coded.{Coded, code_by, coded_list, coded×, coded_ℕ}
 use Rattle.std.specs.FinMap as finite
@@ -36,6 +36,14 @@ shared_by users book = record { book = whole_of book; languages = users.language
 pub record IsKnown (shared : SharedBook) : Type 0 where
   pub own : (notations_in shared.book).knows_language shared.book.language ≡ true
   pub chosen : (user language : List ℕ) → finite.get shared.languages user ≡ Some language → (notations_in shared.book).knows_language language ≡ true
+
+-- it is so again after each line
+abbrev pub SharedStaysKnown : Type 0
+SharedStaysKnown = (shared : SharedBook) (line : List ℕ) → IsKnown shared → IsKnown (share_machine shared line).0
+
+-- no line changes the book's own language
+abbrev pub OwnStays : Type 0
+OwnStays = (shared : SharedBook) (line : List ℕ) → (share_machine shared line).0.book.language ≡ shared.book.language
 
 -- a line did so, with this reply
 pub record DoesShared (line : List ℕ) (old new : SharedBook) (told : List ℕ) : Type 0 where

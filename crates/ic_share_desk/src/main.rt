@@ -2,8 +2,8 @@
 //! does with its words.
 #![tactic(auto)]
 
-use ic_share::share_desk;
 use ic_lines::{StdSink, StdSource};
+use ic_share::share_desk;
 use ic_tables::sample_tables;
 use jiff::Timestamp;
 use std::process::ExitCode;
