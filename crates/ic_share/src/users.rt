@@ -1,13 +1,14 @@
 //! The languages of users who share a book, and the answer to a line of one of them.
-ghost use Rattle.std.specs.Prelude.{◌≡◌, List, ℕ, [], Err, IfOk, IfSome, IsFalse, IsSome, IsTrue, OnErr, OnOk, Some, None, chars, is_ok, string_bytes, true, unwrap_or};
+ghost use Rattle.std.specs.Prelude.{◌≡◌, List, ℕ, [], Err, IfOk, IfSome, IsFalse, IsSome, IsTrue, OnErr, OnOk, Some, None, chars, string_bytes, true, unwrap_or};
 ghost use Rattle.std.specs.FinMap as finite;
 ghost use Rattle.ic_machine.specs.Book.{notations_in};
 ghost use Rattle.ic_machine.specs.Command.{command_in, commands};
 ghost use Rattle.ic_machine.specs.Refusal.{BadLine};
-ghost use Rattle.ic_machine.specs.Reply.{Reply, reply_bytes};
+ghost use Rattle.ic_machine.specs.Reply.{reply_bytes};
 ghost use Rattle.ic_machine.specs.Step.{english_errors, line_step};
 ghost use Rattle.ic_book.specs.Book.{IsValidBook};
 ghost use Rattle.ic_book.specs.Whole.{whole_of};
+ghost use Rattle.ic_run.specs.Counts.{begins_with_o};
 ghost use Rattle.ic_share.specs.Share.{DoesShared, IsKnown, shared_by};
 ghost use Rattle.ic_commands.specs.Answered.{DoesLine};
 ghost use Rattle.ic_share.specs.Shared.{in_language, language_chosen, languages_left, sent_step};
@@ -16,6 +17,7 @@ use crate::line::{line_of, parts_of, user_of};
 use ic_book::{BookError, Model};
 use ic_commands::reply_in;
 use ic_laws::OutOfMemory;
+use ic_laws::scan::first_char;
 use ic_lines::Line;
 use std::alloc::Global;
 use std::collections::BTreeMap;
@@ -176,9 +178,12 @@ fn chooses_language(command: &str) -> bool
 
 /// Whether a reply tells no refusal.
 fn is_ok(reply: &str) -> bool
-    ensures { (told : Reply) → reply.now ≡ reply_bytes told → result ≡ is_ok told }
+    ensures { result ≡ begins_with_o (chars reply.now) }
 {
-    reply.starts_with('o')
+    match first_char(reply) {
+        Some((c, _)) => c == 'o',
+        None => false,
+    }
 }
 
 /// The code of the language in force.
