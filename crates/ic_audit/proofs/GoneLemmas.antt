@@ -1,5 +1,5 @@
 -- A deleted sheet and a deleted definition: what becomes of each mention, and that the sites of what is gone are listed.
-use Rattle.std.proofs.Common.{◌≡◌, ℕ, zero, suc, ◌<◌, List, [], ◌∷◌, ◌++◌, map, Bool, true, false, cond, ◌&&◌, ◌||◌, Option, Some, None, option_map, is_some, refl, sym, ap, subst, ◌∙◌, flat_map, arith}
+use Rattle.std.proofs.Common.{◌≡◌, ◌⊎◌, inl, inr, ℕ, zero, suc, ◌<◌, List, [], ◌∷◌, ◌++◌, map, Bool, true, false, cond, ◌&&◌, ◌||◌, Option, Some, None, option_map, is_some, refl, sym, ap, subst, ◌∙◌, flat_map, arith}
 use Rattle.std.specs.Prelude.{bytes_eq, remove, slice_get}
 use Rattle.std.specs.FinMap as finite
 use Rattle.std.specs.List.{AllByRecursion, AllZip, Contains, IsDistinct, find, list_any}
@@ -36,6 +36,7 @@ use Rattle.ic_laws.specs.declared.tree.SheetMention.{SheetMention}
 use Rattle.ic_laws.specs.declared.tree.SheetMention.TheVariants as sheet_mentions
 use Rattle.ic_laws.specs.declared.tree.Tree.TheOpen as one
 use Rattle.ic_tree.proofs.NotationLaws.{notations_are}
+use Rattle.ic_pool.proofs.ChangeLemmas.{untouched_stays}
 use Rattle.ic_pool.specs.Mentions.{is_dangling, is_dangling_word}
 use Rattle.ic_machine.proofs.BindsLemmas.{core_left, deleted_is_not_meant}
 use Rattle.ic_machine.proofs.CoreValid.{core_valid}
@@ -173,22 +174,30 @@ module _ (OfSheet : SheetMention → SheetMention → Type 0) (OfWord : NameMent
     formula_becomes scope (formulas.Tree t) = tree_becomes scope t
     formula_becomes scope (formulas.Raw text) = refl
 
-    module _ (test : Formula → Bool) (book : Book) where
+    module _ (test : Formula → Bool) (book : Book) (stays : (scope : Option ℕ) (f : Formula) → test f ≡ false → with_tree (changed_tree change scope) f ≡ f) where
       abbrev sites : List Site
       sites = passing_sites test book
 
       abbrev Sheets : core.Sheet → core.Sheet → Type 0
-      Sheets = SheetBecomes OfSheet OfWord OfLocal test sites
+      Sheets = SheetBecomes OfSheet OfWord OfLocal sites
 
       abbrev Definitions : Definition → Definition → Type 0
-      Definitions = DefinitionBecomes OfSheet OfWord OfLocal test sites
+      Definitions = DefinitionBecomes OfSheet OfWord OfLocal sites
+
+      -- a formula that passes the test stands at a listed site, and any other stays
+      listed_or_same : (scope : Option ℕ) (f : Formula) (site : Site) → (test f ≡ true → Contains sites site) → Contains sites site ⊎ (with_tree (changed_tree change scope) f ≡ f)
+      listed_or_same scope f site listed = by_test (test f) refl
+        where
+          by_test : (b : Bool) → test f ≡ b → Contains sites site ⊎ (with_tree (changed_tree change scope) f ≡ f)
+          by_test true e = inl (listed e)
+          by_test false e = inr (stays scope f e)
 
       sheet_becomes : (s : core.Sheet) → SheetListed test sites s → Sheets s (with_cell_trees (changed_tree change) s)
       sheet_becomes s listed = record {
         id = refl;
         name = refl;
         cells = zip_map _ (λ (cell : CellPlace × Formula). (cell.0, with_tree (changed_tree change (Some s.id)) cell.1)) s.cells
-            (all_of (CellListed test sites s.id) _ (λ cell h. record { place = refl; formula = record { formula = formula_becomes (Some s.id) cell.1; listed = h } }) s.cells listed);
+            (all_of (CellListed test sites s.id) _ (λ cell h. record { place = refl; formula = record { formula = formula_becomes (Some s.id) cell.1; listed = listed_or_same (Some s.id) cell.1 (CellSite s.id cell.0) h } }) s.cells listed);
       }
 
       definition_becomes : (d : Definition) → BodyListed test sites d → Definitions d (with_body_tree (changed_tree change) d)
@@ -196,7 +205,7 @@ module _ (OfSheet : SheetMention → SheetMention → Type 0) (OfWord : NameMent
         name = refl;
         scope = refl;
         has_equals = refl;
-        body = record { formula = formula_becomes d.scope d.body; listed = listed };
+        body = record { formula = formula_becomes d.scope d.body; listed = listed_or_same d.scope d.body (DefinitionSite (key_of (spelling_of d))) listed };
       }
 
       pub sheets_become : AllZip Sheets (core_of book).sheets (map (with_cell_trees (changed_tree change)) (core_of book).sheets)
@@ -205,14 +214,14 @@ module _ (OfSheet : SheetMention → SheetMention → Type 0) (OfWord : NameMent
       pub definitions_become : AllZip Definitions book.definitions (map (with_body_tree (changed_tree change)) book.definitions)
       definitions_become = zip_map Definitions (with_body_tree (changed_tree change)) book.definitions (all_of (BodyListed test sites) _ definition_becomes book.definitions (bodies_at test book))
 
-      pub sheet_left : (index : ℕ) (after : CoreBook) → after ≡ without_sheet index (with_trees (changed_tree change) (core_of book)) → BookBecomes OfSheet OfWord OfLocal test sites (remove (core_of book).sheets index) book.definitions after
-      sheet_left index after is = subst (BookBecomes OfSheet OfWord OfLocal test sites (remove (core_of book).sheets index) book.definitions) (sym is) (record {
+      pub sheet_left : (index : ℕ) (after : CoreBook) → after ≡ without_sheet index (with_trees (changed_tree change) (core_of book)) → BookBecomes OfSheet OfWord OfLocal sites (remove (core_of book).sheets index) book.definitions after
+      sheet_left index after is = subst (BookBecomes OfSheet OfWord OfLocal sites (remove (core_of book).sheets index) book.definitions) (sym is) (record {
         sheets = zip_remove Sheets (core_of book).sheets (map (with_cell_trees (changed_tree change)) (core_of book).sheets) index sheets_become;
         definitions = definitions_become;
       })
 
-      pub definition_left : (index : ℕ) (after : CoreBook) → after ≡ without_definition (Some index) (with_trees (changed_tree change) (core_of book)) → BookBecomes OfSheet OfWord OfLocal test sites (core_of book).sheets (remove book.definitions index) after
-      definition_left index after is = subst (BookBecomes OfSheet OfWord OfLocal test sites (core_of book).sheets (remove book.definitions index)) (sym is) (record {
+      pub definition_left : (index : ℕ) (after : CoreBook) → after ≡ without_definition (Some index) (with_trees (changed_tree change) (core_of book)) → BookBecomes OfSheet OfWord OfLocal sites (core_of book).sheets (remove book.definitions index) after
+      definition_left index after is = subst (BookBecomes OfSheet OfWord OfLocal sites (core_of book).sheets (remove book.definitions index)) (sym is) (record {
         sheets = sheets_become;
         definitions = zip_remove Definitions book.definitions (map (with_body_tree (changed_tree change)) book.definitions) index definitions_become;
       })
@@ -239,7 +248,8 @@ unfolding core_step
 sheet_is_gone b after index sheet fields valid at e =
     let left = core_left b after (OnSheets (sheets.DeleteSheet index)) (core_command.DeleteSheet index) fields refl e in
     let scene = scene_of (core_of b) in
-    sheet_left (SheetGoes sheet.id) WordStays (LocalGoes sheet.id) (sheet_gone scene sheet.id sheet.name) (sheet_goes scene sheet.id sheet.name) (λ scope m. refl) (local_goes scene sheet.id sheet.name) (mentions_sheet sheet.id) b index (core_of after)
+    sheet_left (SheetGoes sheet.id) WordStays (LocalGoes sheet.id) (sheet_gone scene sheet.id sheet.name) (sheet_goes scene sheet.id sheet.name) (λ scope m. refl) (local_goes scene sheet.id sheet.name) (mentions_sheet sheet.id) b
+    (untouched_stays (sheet_gone scene sheet.id sheet.name)) index (core_of after)
     (delete_dangles (notations_in b) (core_of b) (core_of after) index (core_sheet sheet) left.0 (notations_are b.tables valid.tables) (core_valid b valid) (slice_get-map core_sheet b.sheets index ∙ ap (option_map core_sheet) at) left.1)
 
 -- ---- a definition goes
@@ -311,9 +321,9 @@ module _ (book : Book) (index : ℕ) (definition : Definition) (at : slice_get b
   local_name_goes s m = (refl, dangles_if is_dangling_word (is_of_name its_key m) m (names.Dangling definition.name) refl)
 
   pub name_left : (after : CoreBook) → after ≡ without_definition (Some index) (with_trees (changed_tree (definition_gone rest_of (spelling_of definition))) (core_of book))
-      → BookBecomes SheetStays (NameGoes (falls_back book definition) its_key) (LocalNameGoes its_key) (mentions_name its_key) (passing_sites (mentions_name its_key) book) (core_of book).sheets (remove book.definitions index) after
+      → BookBecomes SheetStays (NameGoes (falls_back book definition) its_key) (LocalNameGoes its_key) (passing_sites (mentions_name its_key) book) (core_of book).sheets (remove book.definitions index) after
   name_left after is =
-      definition_left SheetStays (NameGoes (falls_back book definition) its_key) (LocalNameGoes its_key) (definition_gone rest_of (spelling_of definition)) (λ m. refl) name_goes local_name_goes (mentions_name its_key) book index after is
+      definition_left SheetStays (NameGoes (falls_back book definition) its_key) (LocalNameGoes its_key) (definition_gone rest_of (spelling_of definition)) (λ m. refl) name_goes local_name_goes (mentions_name its_key) book (untouched_stays (definition_gone rest_of (spelling_of definition))) index after is
 
 pub name_is_gone : NameIsGone
 name_is_gone b after name scope index definition fields valid found at e =

@@ -1,6 +1,6 @@
 -- What becomes of mentions, each at its place, where a sheet or a definition is deleted: which dangle then, which mean another
 -- definition, and that all others are what they were. Formulas are those of a book's cells and the bodies of its definitions.
-use Rattle.std.specs.Prelude.{◌≡◌, ℕ, List, Bool, true, false, ◌&&◌, Option, Some, None, Ok, is_some, remove, slice_get}
+use Rattle.std.specs.Prelude.{◌≡◌, ◌⊎◌, ℕ, List, Bool, true, false, ◌&&◌, Option, Some, None, Ok, is_some, remove, slice_get}
 use Rattle.std.specs.List.{AllZip, Contains}
 use Rattle.ic_laws.specs.Changes.{is_of_name, is_of_sheet}
 use Rattle.ic_laws.specs.CoreBook as core
@@ -20,7 +20,7 @@ use Rattle.ic_machine.specs.Book.{Book, Sheet, core_of}
 use Rattle.ic_machine.specs.Command.{OnDefinitions, OnSheets}
 use Rattle.ic_machine.specs.Refusal.{CellSite, DefinitionSite, Site}
 use Rattle.ic_machine.specs.Reply.{Field}
-use Rattle.ic_machine.specs.Sites.{mentions_name, mentions_sheet, sites_of_name, sites_of_sheet}
+use Rattle.ic_machine.specs.Sites.{sites_of_name, sites_of_sheet}
 use Rattle.ic_machine.specs.Step.{step}
 use Rattle.ic_machine.specs.Valid.{IsValidBook}
 use Rattle.ic_machine.specs.subjects.Definitions as definitions
@@ -43,11 +43,11 @@ module _ (OfSheet : SheetMention → SheetMention → Type 0) (OfWord : NameMent
   FormulaBecomes (formulas.Raw before) (formulas.Raw after) = after ≡ before
   FormulaBecomes before after = ⊥
 
-  -- so of the formula at a site; where it passes a test, its site is one of these
-  module _ (test : Formula → Bool) (sites : List Site) where
+  -- so of the formula at a site, which is one of these sites; elsewhere the formula is what it was
+  module _ (sites : List Site) where
     pub record SiteBecomes (site : Site) (before after : Formula) : Type 0 where
       pub formula : FormulaBecomes before after
-      pub listed : test before ≡ true → Contains sites site
+      pub listed : Contains sites site ⊎ (after ≡ before)
 
     -- of a cell of the sheet with an id
     pub record CellBecomes (id : ℕ) (before after : CellPlace × Formula) : Type 0 where
@@ -89,11 +89,11 @@ abbrev pub LocalGoes : ℕ → SheetMention → NameMention → LocalMention →
 LocalGoes id sheet word after = SheetGoes id sheet after.0 × DanglesIf is_dangling_word (is_of_sheet id sheet) word after.1
 
 -- After an accepted deletion of a sheet all that is left is what it was, but for the mentions of the sheet, and the words
--- with that sheet: they dangle. All of them stand at sites that are listed for the sheet.
+-- with that sheet: they dangle. A formula at a site that isn't listed for the sheet is what it was.
 abbrev pub SheetIsGone : Type 0
 SheetIsGone =
     (book after : Book) (index : ℕ) (sheet : Sheet) (fields : List Field) → IsValidBook book → slice_get book.sheets index ≡ Some sheet → step book (OnSheets (sheets.DeleteSheet index)) ≡ Ok (after, fields)
-    → BookBecomes (SheetGoes sheet.id) WordStays (LocalGoes sheet.id) (mentions_sheet sheet.id) (sites_of_sheet sheet.id book) (remove (core_of book).sheets index) book.definitions (core_of after)
+    → BookBecomes (SheetGoes sheet.id) WordStays (LocalGoes sheet.id) (sites_of_sheet sheet.id book) (remove (core_of book).sheets index) book.definitions (core_of after)
 
 -- Where a definition goes, sheets stay. Words that meant it dangle; but where it was local to a sheet, and there is one of an
 -- agreeing name for all sheets, those that stand behind no sheet mean that one. ----
@@ -119,12 +119,12 @@ NameGoes back key before after = NameGoesIf (is_of_name key before) back key bef
 abbrev pub LocalNameGoes : NameKey → SheetMention → NameMention → LocalMention → Type 0
 LocalNameGoes key sheet word after = (after.0 ≡ sheet) × DanglesIf is_dangling_word (is_of_name key word) word after.1
 
--- After an accepted deletion of a definition all that is left is what it was, but for the words that meant it. All of them
--- stand at sites that are listed for it.
+-- After an accepted deletion of a definition all that is left is what it was, but for the words that meant it. A
+-- formula at a site that isn't listed for it is what it was.
 abbrev pub NameIsGone : Type 0
 NameIsGone =
     (book after : Book) (name : List ℕ) (scope : Option ℕ) (index : ℕ) (definition : Definition) (fields : List Field) → IsValidBook book
     → index_of_definition (core_of book) name (scope_or_none (core_of book) scope) ≡ Some index → slice_get book.definitions index ≡ Some definition
     → step book (OnDefinitions (definitions.DeleteDefinedName name scope)) ≡ Ok (after, fields)
-    → BookBecomes SheetStays (NameGoes (falls_back book definition) (key_of (spelling_of definition))) (LocalNameGoes (key_of (spelling_of definition))) (mentions_name (key_of (spelling_of definition)))
+    → BookBecomes SheetStays (NameGoes (falls_back book definition) (key_of (spelling_of definition))) (LocalNameGoes (key_of (spelling_of definition)))
     (sites_of_name (key_of (spelling_of definition)) book) (core_of book).sheets (remove book.definitions index) (core_of after)

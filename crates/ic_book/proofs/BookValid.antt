@@ -98,7 +98,7 @@ module _ (book : Book) (valid : IsValidBook book) where
       subst (λ scene. AllByRecursion (IsValidPool n scene) book.sheets) (whole_scene book)
       (pools_of n (machine.scene_in whole) book.strings book.sheets valid.whole.kept.pools valid.whole.formulas)
 
-  -- what an accepted step of the core machine leaves of the whole book is valid, where the step keeps that
+  -- what an accepted step of the identity machine leaves of the whole book is valid, where the step keeps that
   lifted_valid : (command : Command) (after : CoreBook) (left : machine.Book) → core_step.core_step n core command ≡ Ok (after, []) → StaysValid (as_core (core_step.core_step n (machine.core_of whole) command) left) → valid_machine.IsValidBook left
   lifted_valid command after left e h = subst (λ o. StaysValid (as_core o left)) (ap (λ c. core_step.core_step n c command) (whole_core book) ∙ e) h
 

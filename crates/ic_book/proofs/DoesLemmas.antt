@@ -38,7 +38,7 @@ use Rattle.ic_book.specs.declared.error.BookError.TheVariants as errors
 use Rattle.ic_book.proofs.BookValid.{added_valid, defined_valid, in_language, in_locale, moved_valid, removed_valid, renamed_valid, undefined_valid}
 use Rattle.ic_book.proofs.WholeLemmas.{whole_added, whole_changed, whole_core, whole_defined, whole_moved, whole_removed, whole_renamed, whole_undefined}
 
--- what an error tells of the core machine's refusals it tells of all
+-- what an error tells of the identity machine's refusals it tells of all
 pub told_whole : (e : BookError) (refusal : Option Refusal) → TellsCore e refusal → option_map OfCore refusal ≡ refusal_of e
 told_whole errors.BadLine refusal h = ap (option_map OfCore) h
 told_whole errors.InvalidSheet refusal h = ap (option_map OfCore) h
@@ -77,7 +77,7 @@ told_whole (errors.BadWorkbook condition) refusal h = absurd h
 told_whole (errors.WouldCapture sites) refusal h = absurd h
 told_whole errors.OutOfMemory refusal h = ap (option_map OfCore) h
 
--- A step of the core machine, seen as one of the whole, where nothing but this refuses it. ----
+-- A step of the identity machine, seen as one of the whole, where nothing but this refuses it. ----
 
 module _ {T : Type 0} (refusal : Option Refusal) (book : CoreBook) (told : List commands.Field) (left : machine.Book) (fields : T → List Field) (old new : ModelState) where
   abbrev made : Stepped machine.Book

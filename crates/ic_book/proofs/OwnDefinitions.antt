@@ -49,7 +49,7 @@ some_is : {X : Type 0} (o : Option X) → IsSome o → (x : X) × (o ≡ Some x)
 some_is None h = cc
 some_is (Some x) h = (x, refl)
 
--- what tells a refusal of all tells one of the core machine's
+-- what tells a refusal of all tells one of the identity machine's
 some_core : (o : Option refusals.Refusal) (p : Option Refusal) → option_map OfCore o ≡ p → IsSome p → (r : refusals.Refusal) × (o ≡ Some r)
 some_core None p e h = let none : None ≡ p = e in let some : IsSome p = h in absurd (no_value Refusal (subst IsSome (sym none) some))
 some_core (Some r) p e h = (r, refl)

@@ -15,7 +15,7 @@ use Rattle.ic_book.specs.Book.{whole_grid}
 use Rattle.ic_book.specs.declared.error.BookError.{BookError}
 
 -- when a call may run out of memory: never; only where its step isn't refused; there, or where this refusal holds, which
--- needs memory to be seen, whether the core machine has it or not; there, or where one holds that passes a test; and only
+-- needs memory to be seen, whether the identity machine has it or not; there, or where one holds that passes a test; and only
 -- where it isn't refused, but what formulas are found by may have grown then
 pub data Memory : Type 0 where
   Never : Memory
@@ -74,7 +74,7 @@ DoesOnly step command fields result old new = DoesStep Never (step (whole_of old
 abbrev pub DoesOr : core.Refusal → {C T : Type 0} → (machine.Book → C → Stepped machine.Book) → C → (T → List Field) → Result T BookError → ModelState → ModelState → Type 0
 DoesOr late step command fields result old new = DoesStep (WantedOr late) (step (whole_of old.book) command) fields result old new
 
--- of one that needs memory to see whether a refusal holds that the core machine doesn't have
+-- of one that needs memory to see whether a refusal holds that the identity machine doesn't have
 abbrev pub DoesOrWhole : Refusal → {C T : Type 0} → (machine.Book → C → Stepped machine.Book) → C → (T → List Field) → Result T BookError → ModelState → ModelState → Type 0
 DoesOrWhole late step command fields result old new = DoesStep (WantedOrWhole late) (step (whole_of old.book) command) fields result old new
 

@@ -85,7 +85,7 @@ abbrev pub TellsWhere : (Refusal → Bool) → {T : Type 0} → Result T BookErr
 TellsWhere is_late (Ok value) refusal = refusal ≡ None
 TellsWhere is_late (Err e) refusal = (refusal ≡ refusal_of e) ⊎ (IsLate is_late refusal × (e ≡ errors.OutOfMemory))
 
--- What an error tells where the core machine says what refuses: this refusal, or none where memory ran out. Other errors
+-- What an error tells where the identity machine says what refuses: this refusal, or none where memory ran out. Other errors
 -- don't come there. ----
 
 abbrev pub TellsCore : BookError → Option core.Refusal → Type 0

@@ -17,7 +17,7 @@ use std::alloc::Global;
 
 impl<'a> Model<'a> {
     /// The formats of the locale in force: the code of its currency; its standard format of currencies, with the
-    /// currency's symbol in double quotes and plain blanks; its short and its long format of dates, each with 15 December
+    /// currency's symbol in double quotes and plain spaces; its short and its long format of dates, each with 15 December
     /// 2025 as it shows it; and the format `#,##0.00` with 1234.567. Only memory can be missing.
     pub fn get_fmt_settings(&self) -> Result<FmtSettings, BookError>
         ensures does { Does notation_step GetFmtSettings fields_of_settings
@@ -106,8 +106,8 @@ fn example_amount() -> Amount
     }
 }
 
-/// The locale's standard format of currencies, with the symbol in double quotes, and then plain blanks for those at which
-/// no line breaks.
+/// The locale's standard format of currencies, with the symbol in double quotes, and then plain spaces for no-break
+/// spaces.
 fn currency_code(alloc: Global, locale: &Locale) -> Result<Text, OutOfMemory>
     ensures { IfOk result (λ text. text ≡ currency_code locale.now) }
 {
@@ -119,7 +119,7 @@ fn currency_code(alloc: Global, locale: &Locale) -> Result<Text, OutOfMemory>
     Ok(Text::from(plain))
 }
 
-/// Appends a text with plain blanks for those at which no line breaks.
+/// Appends a text with plain spaces for its no-break spaces.
 fn push_plain(plain: &mut String, text: &str) -> Result<(), OutOfMemory>
     ensures { OnOk result (chars (string_bytes plain.new)
         ≡ chars (string_bytes plain.old) ++ map plain_blank (chars text.now)) }
@@ -132,7 +132,7 @@ fn push_plain(plain: &mut String, text: &str) -> Result<(), OutOfMemory>
     Ok(())
 }
 
-/// A plain blank for one at which no line breaks.
+/// A plain space for a no-break space.
 fn plain_blank(c: char) -> char
     ensures { result ≡ plain_blank c }
 {

@@ -1,4 +1,4 @@
--- What is bound after a command, by the core machine's laws.
+-- What is bound after a command, by the identity machine's laws.
 use Rattle.std.proofs.Common.{◌≡◌, ℕ, List, Option, Some, Ok, Err, refl, sym, ap, subst, ◌∙◌}
 use Rattle.std.proofs.lemmas.Option.{slice_get-map}
 use Rattle.std.specs.Prelude.{option_map}
@@ -19,7 +19,7 @@ use Rattle.ic_machine.specs.subjects.Sheets as sheets
 use Rattle.ic_machine.proofs.CoreValid.{core_valid}
 use Rattle.ic_machine.proofs.SteppedLemmas.{stepped}
 
--- an accepted command of the core machine leaves the core of what is left
+-- an accepted command of the identity machine leaves the core of what is left
 core_told : (b after : Book) (k : core.Command) (fields : List Field) (o : Outcome) → core_step (notations_in b) (core_of b) k ≡ o → told_by_core o ≡ Ok (core_of after, fields)
     → (told : List core.Field) × (core_step (notations_in b) (core_of b) k ≡ Ok (core_of after, told))
 core_told b after k fields (Err refusal) e told = cc

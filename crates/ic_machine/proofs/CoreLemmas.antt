@@ -1,4 +1,4 @@
--- The core of a book over a change of its sheets or its definitions: it is changed as the core machine's is.
+-- The core of a book over a change of its sheets or its definitions: it is changed as the identity machine's is.
 use Rattle.std.proofs.Common.{◌≡◌, ℕ, zero, suc, ◌+◌, List, [], ◌∷◌, ◌++◌, map, length, Option, Some, None, refl, sym, ap, ap₂, ◌∙◌}
 use Rattle.std.specs.FinMap as finite
 use Rattle.std.specs.Prelude.{insert, remove, option_map}

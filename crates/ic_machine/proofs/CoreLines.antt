@@ -1,4 +1,4 @@
--- The command that a core line is by the table of all commands is the one that it is by the core machine's.
+-- The command that a core line is by the table of all commands is the one that it is by the identity machine's.
 use Rattle.std.proofs.Common.{◌≡◌, ℕ, List, [], ◌∷◌, ◌++◌, map, Bool, true, false, cond, Option, Some, None, is_some, refl, sym, ap, ap₂, subst, ◌∙◌, codes, inl, inr, rules}
 use mathlib.Core.Bool.{true≢false}
 use Rattle.std.specs.Prelude.{◌||◌, bytes_eq, drop, option_and_then, option_map, take}
@@ -16,7 +16,7 @@ use Rattle.ic_machine.specs.Laws.{CoreIsRead, CoreLinesAreCore}
 use Rattle.ic_machine.specs.Row.{Row, joined, spelled}
 use Rattle.ic_machine.specs.Word.{AllSaid, OfIndex, OfPosition, OfScope, OfText, Said, WordForm, Words, all_said, said, words_of, words_said}
 
--- a row of the core machine as one of the whole ----
+-- a row of the identity machine as one of the whole ----
 
 abbrev form_of : core.WordForm → WordForm
 form_of core.OfText = OfText
@@ -144,7 +144,7 @@ find-after text (row ∷ front) one other e = ap (λ (o : Option CommandRow). co
 
 -- both tables ----
 
--- the names of the core machine's commands
+-- the names of the identity machine's commands
 abbrev core_names : List (List ℕ)
 core_names = map (λ (row : CommandRow). row.name) core.commands
 
@@ -219,7 +219,7 @@ module _ (names : List (List ℕ)) (name : List ℕ) where
         | inr e ↦ rw e (passed (list_any (bytes_eq row.name) names) row (rows_named names rows) name e ∙ found_named rows)
       ]
 
--- A row with another name than those of the core machine makes none of its commands. ----
+-- A row with another name than those of the identity machine makes none of its commands. ----
 
 abbrev IsOther : Row Command → Type 0
 IsOther row = cond (list_any (bytes_eq row.name) core_names) (Unit {0}) ((w : AllSaid row.words) → counterpart (row.command w) ≡ None)
@@ -270,7 +270,7 @@ module _ (english : List (List ℕ)) where
         | inr e ↦ other_made english name words commands all_other e h ∙ sym (ap (made_by english name words) (none_core name e))
       ]
 
-  -- a command of the core machine
+  -- a command of the identity machine
   core_command : (words : List (List ℕ)) (command : Command) → spelled english core_rows words ≡ Some command → spelled english commands words ≡ Some command
   core_command [] command h = cc
   core_command (name ∷ words) command h =

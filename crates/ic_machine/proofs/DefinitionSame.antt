@@ -60,7 +60,7 @@ use Rattle.ic_machine.proofs.SameLemmas.{core_same}
 use Rattle.ic_machine.proofs.UpdatedStays.{some_of}
 use Rattle.ic_machine.proofs.TreeAgain.{fits_there, form, form_there, reads_there, references_there}
 
--- an accepted step of the core machine
+-- an accepted step of the identity machine
 core_accepted : (o : Option refusals.Refusal) (now : CoreBook) (whole left : Book) (fields : List Field) → as_core (core.unless_refused o now []) whole ≡ Ok (left, fields) → (o ≡ None) × (left ≡ whole)
 core_accepted None now whole left fields e =
     let pair : ◌≡◌ {A = Book × List Field} (whole, []) (left, fields) = cc in (refl, sym (ap (λ (p : Book × List Field). p.0) pair))

@@ -1,4 +1,4 @@
--- A formula that is written: seen by the core, it is what the core machine writes.
+-- A formula that is written: seen by the core, it is what the identity machine writes.
 use Rattle.std.proofs.Common.{◌≡◌, ℕ, zero, suc, ◌<◌, List, [], ◌∷◌, ◌++◌, length, Bool, true, false, cond, Option, Some, None, refl, sym, ap, subst, ◌∙◌, arith, T}
 use mathlib.Core.Bool.{true≢false}
 use Rattle.std.specs.BTreeMap.{insert_entry}

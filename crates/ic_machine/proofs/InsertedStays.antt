@@ -75,7 +75,7 @@ none_holds (cause ∷ causes) e =
       | inr f ↦ (f, none_holds causes (rw f at e))
     ]
 
--- a change that the core machine may not have ----
+-- a change that the identity machine may not have ----
 
 module _ (b : Book) (valid : IsValidBook b) (later : Scene) (keys : KeyChange) (sheets : List Sheet) (definitions : List Definition) (same : scene_in (with_parts b sheets definitions) ≡ later) where
   abbrev Hold : List Sheet → Type 0

@@ -31,10 +31,10 @@ pub mod HaveLemmas
 mod InputSame
 pub mod InsertedBinds
 pub mod InsertedStays
-mod LineRead
+pub mod LineRead
 mod LineSame
 mod LineStays
-mod LinesAgain
+pub mod LinesAgain
 mod LostKept
 mod LostTokens
 mod LostTrees

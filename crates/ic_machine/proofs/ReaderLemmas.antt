@@ -39,7 +39,7 @@ module _ (b : Book) where
   leaves None fields = refl
   leaves (Some refusal) fields = tt
 
-  -- a step of the core machine that only reads
+  -- a step of the identity machine that only reads
   leaves_core : (o : Outcome) → Leaves b (as_core o b)
   leaves_core (Ok done) = refl
   leaves_core (Err refusal) = tt

@@ -47,7 +47,7 @@ pub refused_same : {A : Type 0} (R : A → A → Type 0) (causes others : Causes
     → SameSteps R (unless_refused causes one fields) (unless_refused others other more)
 refused_same R causes others one other fields more e h = unless_same R (first_refusal causes) (first_refusal others) one other fields more (ap first_refusal e) (λ clear. h)
 
--- one that the core machine has, too
+-- one that the identity machine has, too
 pub core_steps_same : (o p : Option refusals.Refusal) (now then : CoreBook) (fields more : List commands.Field) (one other : Book) → o ≡ p → IsSameBook one other
     → SameSteps IsSameBook (as_core (core.unless_refused o now fields) one) (as_core (core.unless_refused p then more) other)
 core_steps_same None None now then fields more one other e h = h

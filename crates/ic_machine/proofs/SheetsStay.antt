@@ -1,4 +1,4 @@
--- The commands on sheets and on definitions that the core machine has, too, keep what always holds of a book.
+-- The commands on sheets and on definitions that the identity machine has, too, keep what always holds of a book.
 use Rattle.std.proofs.Common.{◌≡◌, ℕ, ℤ, zero, suc, ◌+◌, ◌<◌, List, [], ◌∷◌, ◌++◌, map, length, flat_map, arith, Option, Some, None, Ok, Err, refl, sym, ap, ap₂, subst, ◌∙◌}
 use Rattle.std.proofs.lemmas.Bool.{ltb-true, not-false}
 use Rattle.std.proofs.lemmas.Int.{ints}

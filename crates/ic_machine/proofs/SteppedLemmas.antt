@@ -1,4 +1,4 @@
--- Each command that the core machine has: seen by the core, a step of the whole machine is the core machine's.
+-- Each command that the identity machine has: seen by the core, a step of the whole machine is the identity machine's.
 use Rattle.std.proofs.Common.{◌≡◌, ℕ, List, [], ◌∷◌, Option, Some, None, Ok, refl, ap}
 use Rattle.std.specs.Prelude.{not, unwrap_or}
 use Rattle.ic_laws.specs.Command as commands
@@ -22,7 +22,7 @@ use Rattle.ic_machine.specs.subjects.Sheets as sheets
 use Rattle.ic_machine.specs.subjects.Sheets.{add_sheet_step, delete_by_id_step, delete_by_name_step, delete_sheet_step, move_sheet_step, new_sheet_id_step, rename_by_index_step, rename_sheet_step, with_new_sheet}
 use Rattle.ic_machine.proofs.CoreLemmas.{core_of-added, core_of-changed, core_of-defined, core_of-moved, core_of-removed, core_of-renamed, core_of-undefined}
 
--- a step of the core machine, and what it leaves of the whole book, seen by the core
+-- a step of the identity machine, and what it leaves of the whole book, seen by the core
 told : (refusal : Option refusals.Refusal) (left : CoreBook) (fields : List commands.Field) (whole : Book) → core_of whole ≡ left → told_by (as_core (core.unless_refused refusal left fields) whole) ≡ told_by_core (core.unless_refused refusal left fields)
 told (Some refusal) left fields whole e = refl
 told None left fields whole e = ap (λ (c : CoreBook). Ok (c, of_core_fields fields)) e

@@ -64,7 +64,7 @@ two_not_caused true worse one other e = cc
 two_not_caused false true one other e = cc
 two_not_caused false false one other e = (refl, refl)
 
--- a step of the core machine with one cause
+-- a step of the identity machine with one cause
 core_unless : (bad : Bool) (refusal : refusals.Refusal) (book : core_book.CoreBook) (fields : List commands.Field) (left : Book) → (bad ≡ false → IsValidBook left)
     → StaysValid (as_core (core.unless_refused (refusals.first_refusal ((bad, refusal) ∷ [])) book fields) left)
 core_unless true refusal book fields left h = tt

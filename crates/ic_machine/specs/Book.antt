@@ -158,7 +158,7 @@ on_tab book index step = on_sheet book index (λ sheet. put_in (λ tab. record s
 abbrev pub lacks_sheet : Book → ℕ → Bool
 lacks_sheet book index = not (nat_lt index (length book.sheets))
 
--- a step of the core machine on the core of a book, as one of the whole machine that leaves this
+-- a step of the identity machine on the core of a book, as one of the whole machine that leaves this
 abbrev pub as_core : Outcome → Book → Stepped Book
 as_core (Err refusal) left = Err (OfCore refusal)
 as_core (Ok done) left = Ok (left, of_core_fields done.1)

@@ -1,4 +1,4 @@
--- The commands that the core machine has, too, and how a step of the whole machine is seen by it.
+-- The commands that the identity machine has, too, and how a step of the whole machine is seen by it.
 use Rattle.std.specs.Prelude.{◌≡◌, ℕ, ◌<◌, List, length, Bool, true, false, Option, Some, None, Result, Ok, Err, is_some, slice_get}
 use Rattle.std.specs.FinMap as finite
 use Rattle.ic_laws.specs.Command as core
@@ -54,7 +54,7 @@ abbrev pub core_reading : Reading → Option core.Command
 core_reading (reading.GetCellFormula sheet row column) = Some (core.GetCellFormula sheet row column)
 core_reading command = None
 
--- the core machine's command that a command is, if that has it
+-- the identity machine's command that a command is, if that has it
 abbrev pub core_command : Command → Option core.Command
 core_command (OnSheets command) = core_sheets command
 core_command (OnDefinitions command) = core_definitions command
@@ -71,7 +71,7 @@ abbrev pub counterpart : Command → Option core.Command
 counterpart (OnWriting command) = core_writing command
 counterpart command = core_command command
 
--- A line is a core line, by the English words of the error values: it is no command, or one that the core machine has.
+-- A line is a core line, by the English words of the error values: it is no command, or one that the identity machine has.
 abbrev pub is_core : Option Command → Bool
 is_core None = true
 is_core (Some command) = is_some (counterpart command)
@@ -79,7 +79,7 @@ is_core (Some command) = is_some (counterpart command)
 abbrev pub is_core_line : List (List ℕ) → List ℕ → Bool
 is_core_line english line = is_core (command_in english commands line)
 
--- the other way: the command that one of the core machine is
+-- the other way: the command that one of the identity machine is
 abbrev pub whole_command : core.Command → Command
 whole_command (core.AddSheet name) = OnSheets (sheets.AddSheet name)
 whole_command (core.RenameSheet old new) = OnSheets (sheets.RenameSheet old new)
@@ -110,12 +110,12 @@ abbrev pub told_by_core : Outcome → Told
 told_by_core (Err refusal) = Err (OfCore refusal)
 told_by_core (Ok done) = Ok (done.0, of_core_fields done.1)
 
--- what a command leaves and answers is, seen by its core, what the core machine's command does
+-- what a command leaves and answers is, seen by its core, what the identity machine's command does
 abbrev pub IsSteppedAs : Book → Command → Option core.Command → Type 0
 IsSteppedAs book command None = Unit {0}
 IsSteppedAs book command (Some c) = told_by (step book command) ≡ told_by_core (core_step (notations_in book) (core_of book) c)
 
--- The command that writes a formula. The core machine knows no merges, no arrays and no text that a sign begins. ----
+-- The command that writes a formula. The identity machine knows no merges, no arrays and no text that a sign begins. ----
 
 -- each formula of a sheet is one of its pool
 abbrev pub HasPooled : Sheet → Type 0
@@ -138,7 +138,7 @@ pub record TakesFormula (book : Book) (index : ℕ) (place : CellPlace) : Type 0
 abbrev pub begins_with_sign : List ℕ → Bool
 begins_with_sign text = first_is is_sign text
 
--- a formula that is written there is, seen by its core, what the core machine writes
+-- a formula that is written there is, seen by its core, what the identity machine writes
 abbrev pub FormulaIsStepped : Type 0
 FormulaIsStepped =
     (book : Book) (sheet : ℕ) (place : CellPlace) (text : List ℕ) → TakesFormula book sheet place → begins_with_sign text ≡ false

@@ -47,11 +47,11 @@ abbrev pub gives_amount : Writing → Bool
 gives_amount (writing.UpdateCellWithNumber sheet row column amount) = is_amount amount
 gives_amount command = true
 
--- the core of a valid book is a valid book of the core machine
+-- the core of a valid book is a valid book of the identity machine
 abbrev pub CoreIsValid : Type 0
 CoreIsValid = (book : Book) → IsValidBook book → IsValidCore (notations_in book) (core_of book)
 
--- and stays one over each command that the core machine has, too, but that which writes a formula
+-- and stays one over each command that the identity machine has, too, but that which writes a formula
 abbrev pub CoreStaysValid : Type 0
 CoreStaysValid =
     (book after : Book) (command : Command) (of_core : core.Command) (fields : List Field) → IsValidBook book → core_command command ≡ Some of_core

@@ -26,7 +26,7 @@ RefusedStays =
     (rows : List (Row Command)) (book : Book) (line : List ℕ) (command : Command) (refusal : Refusal) → command_in (english_errors book) rows line ≡ Some command
     → step book command ≡ Err refusal → line_step rows book line ≡ (book, Err refusal)
 
--- what a run of lines leaves, and what it replies, by the core machine as one of any machines, is what the core's run does
+-- what a run of lines leaves, and what it replies, by the identity machine as one of any machines, is what the core's run does
 abbrev pub RunsLeaveSame : Type 0
 RunsLeaveSame =
     (n : Notations) (table : List core.CommandRow) (book : CoreBook) (all : List (List ℕ)) → after (core_machine n table) book all ≡ lines.after n table book all
@@ -35,20 +35,20 @@ abbrev pub RunsTellSame : Type 0
 RunsTellSame =
     (n : Notations) (table : List core.CommandRow) (book : CoreBook) (all : List (List ℕ)) → replies (core_machine n table) book all ≡ lines.replies n table book all
 
--- the command that a core line is by the whole table is the one that it is by the core machine's table; where it is none of
+-- the command that a core line is by the whole table is the one that it is by the identity machine's table; where it is none of
 -- these, it is none of those
 abbrev pub CoreLinesAreCore : Type 0
 CoreLinesAreCore =
     (english : List (List ℕ)) (line : List ℕ) → is_core_line english line ≡ true
     → command_in english commands line ≡ option_map whole_command (lines.command_of core.commands line)
 
--- and each line that is a command of the core machine is just that by the whole table, whatever the English words are
+-- and each line that is a command of the identity machine is just that by the whole table, whatever the English words are
 abbrev pub CoreIsRead : Type 0
 CoreIsRead =
     (english : List (List ℕ)) (line : List ℕ) (command : core.Command) → lines.command_of core.commands line ≡ Some command
     → command_in english commands line ≡ Some (whole_command command)
 
--- and no two commands of the core machine are one
+-- and no two commands of the identity machine are one
 abbrev pub CounterpartsAreBack : Type 0
 CounterpartsAreBack = (command : core.Command) → counterpart (whole_command command) ≡ Some command
 

@@ -1,4 +1,4 @@
--- Why a line or a call is refused. Each refusal is said once: here, or with the core machine, which has twenty of them.
+-- Why a line or a call is refused. Each refusal is said once: here, or with the identity machine, which has twenty of them.
 use Rattle.std.specs.Prelude.{ℕ, ℤ, List, [], ◌∷◌, Bool, Option, Some, None, map, codes, if◌then◌else◌}
 use Rattle.ic_laws.specs.CoreBook.{CellPlace}
 use Rattle.ic_laws.specs.Refusal as core
@@ -9,7 +9,7 @@ pub data Site : Type 0 where
   CellSite : (sheet : ℕ) (place : CellPlace) → Site
   DefinitionSite : (key : NameKey) → Site
 
--- one that the core machine has, too; an area that is too small, leaves the sheet, or isn't the one that is asked for; the
+-- one that the identity machine has, too; an area that is too small, leaves the sheet, or isn't the one that is asked for; the
 -- index of a new sheet past the end; an id that a sheet has, or 0; a text that reads in neither notation; a text that
 -- names no cell; a cell of a merge; a cell of an array that must be written as a whole; an array that is cleared in part;
 -- a count below 0; as many rows, or columns, as a sheet has; no formula to take a value; a spill that meets something; the
@@ -54,7 +54,7 @@ refusal_name (BadWorkbook condition) = codes "BadWorkbook"
 refusal_name (WouldCapture sites) = codes "WouldCapture"
 refusal_name OutOfMemory = codes "OutOfMemory"
 
--- the refusals of the core machine
+-- the refusals of the identity machine
 abbrev pub BadLine : Refusal
 BadLine = OfCore core.BadLine
 
@@ -106,6 +106,6 @@ abbrev pub first_refusal : Causes → Option Refusal
 first_refusal [] = None
 first_refusal (cause ∷ causes) = if cause.0 then Some cause.1 else first_refusal causes
 
--- the causes of a command that the core machine has, too
+-- the causes of a command that the identity machine has, too
 abbrev pub of_core : List (Bool × core.Refusal) → Causes
 of_core causes = map (λ cause. (cause.0, OfCore cause.1)) causes

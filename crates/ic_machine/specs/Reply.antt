@@ -43,7 +43,7 @@ field_text (FlagField true) = codes "1"
 field_text (FlagField false) = codes "0"
 field_text (ColorField color) = color_text color
 
--- a field of the core machine's replies
+-- a field of the identity machine's replies
 abbrev pub of_core_field : core.Field → Field
 of_core_field (core.TextField text) = TextField text
 of_core_field (core.NumberField number) = NumberField number

@@ -56,6 +56,6 @@ line_step rows book line = command_step book (command_in (english_errors book) r
 abbrev pub machine : List (Row Command) → Machine Book
 machine rows book line = ((line_step rows book line).0, reply_bytes (line_step rows book line).1)
 
--- the core machine, with a table of its commands
+-- the identity machine, with a table of its commands
 abbrev pub core_machine : Notations → List core.CommandRow → Machine CoreBook
 core_machine n rows book line = ((lines.line_step n rows book line).0, lines.reply_bytes (lines.line_step n rows book line).1)

@@ -82,20 +82,20 @@ pub fn law_cells_are_contents()
     ensures { (strings : List (List ℕ)) → HoldsAlike (content_of strings) celled held }
 {}
 
-/// Seen by its core, a step of the whole machine is that of the core machine, for each command that this has, except one
+/// Seen by its core, a step of the whole machine is that of the identity machine, for each command that this has, except one
 /// that writes a formula: the same core is left and the same fields are answered, or the same refusal.
 pub fn law_core_is_stepped()
     ensures { (book : Book) (command : Command) → IsSteppedAs book command (core_command command) }
 {}
 
-/// A run of lines by the core machine is a run over any machine, that of the core: what is left, and the replies.
+/// A run of lines by the identity machine is a run over any machine, that of the core: what is left, and the replies.
 pub fn law_runs_shared()
     ensures left { RunsLeaveSame }
     ensures told { RunsTellSame }
 {}
 
-/// The command that a core line is by the table of all commands is the core machine's, and none where the core machine has
-/// none. Each line that is a command of the core machine is that command, and so a core line; and no two of these are one.
+/// The command that a core line is by the table of all commands is the identity machine's, and none where the identity machine has
+/// none. Each line that is a command of the identity machine is that command, and so a core line; and no two of these are one.
 pub fn law_core_lines_are_core()
     ensures lines { CoreLinesAreCore }
     ensures all { CoreIsRead }
@@ -122,8 +122,8 @@ pub fn law_book_stays_valid()
     ensures arrays { KeepsValid arrays_step }
 {}
 
-/// The core of a valid book is a valid book of the core machine; and so is that of the book which an accepted command leaves
-/// that the core machine has, too, and that writes no formula: its sheets, its definitions and all formulas of its cells
+/// The core of a valid book is a valid book of the identity machine; and so is that of the book which an accepted command leaves
+/// that the identity machine has, too, and that writes no formula: its sheets, its definitions and all formulas of its cells
 /// are as they must be.
 pub fn law_core_stays_valid()
     ensures core { CoreIsValid }

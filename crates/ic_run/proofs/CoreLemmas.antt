@@ -50,14 +50,14 @@ refusal_in e (Ok x) = e
 refusal_in e (Err x) = x
 
 module _ (b : Book) (c : CoreBook) (is : core_of b ≡ c) where
-  -- what is left has the core that the core machine leaves
+  -- what is left has the core that the identity machine leaves
   pub core_left : (made : Stepped Book) (o : Outcome) → told_by made ≡ told_by_core o → core_of (outcome_of b made).0 ≡ (lines.outcome_of c o).0
   core_left (Ok done) (Ok core) e = ap (left_of c) e
   core_left (Err refusal) (Err told) e = is
   core_left (Ok done) (Err told) e = cc
   core_left (Err refusal) (Ok core) e = cc
 
-  -- and its reply is the core machine's
+  -- and its reply is the identity machine's
   pub text_told : (made : Stepped Book) (o : Outcome) → told_by made ≡ told_by_core o → reply_text (outcome_of b made).1 ≡ lines.reply_text (lines.outcome_of c o).1
   text_told (Ok done) (Ok core) e = ap (λ (fields : List Field). reply_text (Ok fields)) (ap (fields_of []) e) ∙ text_same core.1
   text_told (Err refusal) (Err told) e = ap (λ (r : Refusal). reply_text (Err r)) (ap (refusal_in refusal) e)
@@ -97,7 +97,7 @@ module _ (b : Book) where
   found_stands refusal None step h = stands b
   found_stands refusal (Some s) step h = h s
 
-  -- a command of the core machine leaves what stands beside the core
+  -- a command of the identity machine leaves what stands beside the core
   pub stands_beside : (k : core.Command) → StandsBeside b (outcome_of b (step b (whole_command k))).0
   unfolding add_sheet_step rename_sheet_step rename_by_index_step move_sheet_step delete_sheet_step delete_by_name_step delete_by_id_step new_sheet_id_step new_definition_step delete_definition_step valid_definition_step list_step set_locale_step set_language_step cell_formula_step formula_step
   stands_beside (core.AddSheet name) = core_stands (core_step (notations_in b) (core_of b) (core.AddSheet name)) (changed_by (with_new_sheet name) b) (record { name = refl; zone = refl; theme = refl; metadata = refl; tables = refl })

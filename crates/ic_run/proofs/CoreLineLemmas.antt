@@ -1,4 +1,4 @@
--- A core line does what the core machine does.
+-- A core line does what the identity machine does.
 use Rattle.std.proofs.Common.{◌≡◌, ℕ, List, [], ◌∷◌, ◌++◌, Option, Some, None, encode_utf8_all, option_map, refl, ap, sym, subst, ◌∙◌}
 use Rattle.ic_laws.specs.Command as core
 use Rattle.ic_laws.specs.CoreStep.{core_step}
@@ -33,7 +33,7 @@ same_beside old new left is beside = record {
   tables = ap (λ (b : machine.Book). b.tables) is ∙ beside.tables;
 }
 
--- a command of the core machine
+-- a command of the identity machine
 command_done : (k : core.Command) (old new : Book) → whole_of new ≡ (command_step (whole_of old) (Some (whole_command k))).0 → IsValidBook old → IsPlainBook (whole_of old) → HasNoSign (whole_command k)
     → DoesAsCore (Some (whole_command k)) (Some k) old new
 command_done k old new left valid plain unsigned =

@@ -1,4 +1,4 @@
--- A step of the core machine's commands is, seen by the core of a model's whole book, what the core machine does.
+-- A step of the identity machine's commands is, seen by the core of a model's whole book, what the identity machine does.
 use Rattle.std.proofs.Common.{◌≡◌, ℕ, ◌<◌, length, Option, Some, None, is_some, ap, subst}
 use Rattle.ic_laws.specs.Command as core
 use Rattle.ic_laws.specs.CoreBook.{CellPlace, CoreBook}

@@ -138,7 +138,7 @@ leaves_weaker P Q R S run.TooManyTurns bytes left p q h = (h.0, h.1, p h.0 h.2)
 leaves_weaker P Q R S run.OutOfMemory bytes left p q h = (h.0, h.1, p h.0 h.2)
 leaves_weaker P Q R S run.WriteFault bytes left p q h = (h.0, h.1, q h.0 h.2)
 
--- the replies alone, to core lines by the core machine
+-- the replies alone, to core lines by the identity machine
 leaves_core : (e : RunError) (old new : Book) (bytes left : List ℕ) (before now : Option (List ℕ)) → IsPlainBook (whole_of old) → LeavesRun e old new bytes left before now
     → LeavesReplies (identity_machine (notations_in old)) (core_of old) (AreCore old.tables) e bytes left before now
 leaves_core e old new bytes left before now plain h =

@@ -1,4 +1,4 @@
--- What lines leave and reply, by the whole machine and by the core machine.
+-- What lines leave and reply, by the whole machine and by the identity machine.
 use Rattle.std.proofs.Common.{◌≡◌, ℕ, List, [], ◌∷◌, ◌++◌, Option, Some, None, Result, Ok, Err, OnOk, codes, refl, ap, ap₂, sym, subst, ◌∙◌}
 use Rattle.std.specs.Str.{chars}
 use Rattle.ic_laws.specs.CoreBook.{CoreBook}
@@ -25,7 +25,7 @@ lines_leave (line ∷ all) old new did = lines_leave all did.0 new did.2 ∙ ap 
 same_beside_again : (old mid new : Book) → IsSameBeside old mid → IsSameBeside mid new → IsSameBeside old new
 same_beside_again old mid new p q = record { name = q.name ∙ p.name; zone = q.zone ∙ p.zone; theme = q.theme ∙ p.theme; metadata = q.metadata ∙ p.metadata; tables = q.tables ∙ p.tables }
 
--- core lines leave what the core machine leaves
+-- core lines leave what the identity machine leaves
 pub core_left : (all : List (List ℕ)) (old new : ModelState) → LinesDo all old new → IsPlainBook (whole_of old.book) → AreCore old.book.tables all
     → StepsTo old.book new.book (after (identity_machine (notations_in old.book)) (core_of old.book) all)
 core_left [] old new did plain are =

@@ -1,4 +1,4 @@
--- What the core machine's commands leave of a book without merged cells and arrays of several cells.
+-- What the identity machine's commands leave of a book without merged cells and arrays of several cells.
 use Rattle.std.proofs.Common.{◌≡◌, ℕ, ◌+◌, pos, List, [], ◌∷◌, ◌++◌, Bool, true, false, cond, not, ◌&&◌, map, Option, Some, None, Ok, Err, option_map, slice_get, unwrap_or, refl, sym, ap, subst, ◌∙◌}
 use Rattle.std.specs.FinMap as finite
 use Rattle.std.specs.List.{AllByRecursion}
@@ -173,7 +173,7 @@ module _ (b : Book) (plain : IsPlainBook b) where
       loose_formula true index style = refl
       loose_formula false index style = refl
 
-  -- each command of the core machine leaves such a book
+  -- each command of the identity machine leaves such a book
   pub stays_plain : (k : core.Command) → IsPlainBook (outcome_of b (step b (whole_command k))).0
   unfolding add_sheet_step rename_sheet_step rename_by_index_step move_sheet_step delete_sheet_step delete_by_name_step delete_by_id_step new_sheet_id_step new_definition_step delete_definition_step valid_definition_step list_step set_locale_step set_language_step cell_formula_step formula_step
   stays_plain (core.AddSheet name) = core_plain (core_step (notations_in b) (core_of b) (core.AddSheet name)) (changed_by (with_new_sheet name) b) (added name)

@@ -1,4 +1,4 @@
--- Core lines: those that the core machine knows, in books of which it knows all; and that it does with them what the whole
+-- Core lines: those that the identity machine knows, in books of which it knows all; and that it does with them what the whole
 -- machine does.
 use Rattle.std.specs.Prelude.{◌≡◌, ℕ, List, [], true, false, Option, Some, None}
 use Rattle.std.specs.FinMap as finite
@@ -25,7 +25,7 @@ use Rattle.ic_commands.specs.Answered.{LeavesLine}
 abbrev pub whole_machine : Machine machine.Book
 whole_machine = machine_of commands
 
--- the core machine, by the table of its commands
+-- the identity machine, by the table of its commands
 abbrev pub identity_machine : Notations → Machine CoreBook
 identity_machine n = core_machine n core.commands
 
@@ -38,8 +38,8 @@ abbrev pub WritesNoSign : Option Command → Type 0
 WritesNoSign (Some command) = HasNoSign command
 WritesNoSign None = Unit {0}
 
--- A line is a core line, by the tables of a book: it is no command, or one that the core machine has, and it writes no formula
--- that begins with a sign, which the core machine doesn't know.
+-- A line is a core line, by the tables of a book: it is no command, or one that the identity machine has, and it writes no formula
+-- that begins with a sign, which the identity machine doesn't know.
 abbrev pub IsCore : TableSet → List ℕ → Type 0
 IsCore tables line =
     (is_core_line (error_words_in (english tables.languages)) line ≡ true) × WritesNoSign (command_in (error_words_in (english tables.languages)) commands line)
@@ -48,7 +48,7 @@ IsCore tables line =
 abbrev pub AreCore : TableSet → List (List ℕ) → Type 0
 AreCore tables lines = AllByRecursion (IsCore tables) lines
 
--- a sheet has no merged cells and no arrays of several cells, of which the core machine knows nothing
+-- a sheet has no merged cells and no arrays of several cells, of which the identity machine knows nothing
 pub record IsPlain (grid : Grid) : Type 0 where
   pub merges : grid.merges ≡ []
   pub loose : (place : Place) (content : Content) → finite.get grid.contents place ≡ Some content → is_loose (shape_of content) ≡ true
@@ -57,8 +57,8 @@ pub record IsPlain (grid : Grid) : Type 0 where
 abbrev pub IsPlainBook : machine.Book → Type 0
 IsPlainBook book = AllByRecursion (λ (s : Sheet). IsPlain s.grid) book.sheets
 
--- A line left of a book what the core machine leaves of its core, and nothing else beside the formulas that its sheets keep;
--- the whole machine's reply is the core machine's; and no cells were merged and no array got several cells.
+-- A line left of a book what the identity machine leaves of its core, and nothing else beside the formulas that its sheets keep;
+-- the whole machine's reply is the identity machine's; and no cells were merged and no array got several cells.
 pub record DoesCoreLine (line : List ℕ) (old new : Book) : Type 0 where
   pub steps : StepsTo old new (identity_machine (notations_in old) (core_of old) line).0
   pub tells : (whole_machine (whole_of old) line).1 ≡ (identity_machine (notations_in old) (core_of old) line).1

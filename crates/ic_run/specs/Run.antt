@@ -62,7 +62,7 @@ module _ {S : Type 0} (machine : Machine S) (state : S) where
 -- Of a run. ----
 
 -- a whole run: nothing is left of the bytes, their lines are counted, and if they are core lines, and no cells were merged
--- and no array had several cells, the book is the one that the core machine leaves
+-- and no array had several cells, the book is the one that the identity machine leaves
 pub record TakesAll (old new : Book) (lines : ℕ) (bytes left : List ℕ) : Type 0 where
   pub all : left ≡ []
   pub count : lines ≡ length (texts_of bytes)
@@ -77,7 +77,7 @@ LinesDo (line ∷ lines) old new = (mid : ModelState) × LeavesLine line old mid
 abbrev pub IsAfterAll : Book → Book → List ℕ → List ℕ → Type 0
 IsAfterAll old new bytes left = whole_of new ≡ after whole_machine (whole_of old) (texts_of bytes)
 
--- So many lines were answered by the whole machine; and by the core machine, if they are core lines and no cells were merged
+-- So many lines were answered by the whole machine; and by the identity machine, if they are core lines and no cells were merged
 -- and no array had several cells.
 pub record RunsAnswered (old new : Book) (lines : List (List ℕ)) (before now : Option (List ℕ)) (count : ℕ) : Type 0 where
   pub within : count ≤ length lines

@@ -14,7 +14,7 @@ use std::alloc::Global;
 use std::mem;
 
 /// Answers the lines of a source, one reply a line, and answers their number. It answers every whole line that it
-/// has before it reads again. A core line is one that is no command or one that the core machine has.
+/// has before it reads again. A core line is one that is no command or one that the identity machine has.
 ///
 /// `ReadFault` and `WriteFault` where the source or the sink had a fault, `TooManyTurns` after 2^32 reads that each
 /// gave a byte, where none showed the end, `OutOfMemory`, after which the book is as before the line that met it, and
@@ -26,7 +26,7 @@ pub fn run<S: Source, K: Sink>(
     sink: &mut K,
 ) -> Result<u64, RunError>
     // The identity theorem: all bytes were taken and their lines counted; and if these are core lines, and the book had no
-    // merged cells and no arrays of several cells, the core machine's replies were appended, and its book left.
+    // merged cells and no arrays of several cells, the identity machine's replies were appended, and its book left.
     ensures book { IfOk result
         (λ count. IfTold (S.left source.old) (S.left source.new)
         (TakesAll model.old.book model.new.book count)) }
@@ -111,8 +111,8 @@ fn answer_to<K: Sink>(
     write_all(sink, room.as_bytes())
 }
 
-/// A core line that left of the whole book what the whole machine leaves left of its core what the core machine leaves, and
-/// has its reply, where no cells are merged and no array has several cells, which the core machine knows nothing of; and
+/// A core line that left of the whole book what the whole machine leaves left of its core what the identity machine leaves, and
+/// has its reply, where no cells are merged and no array has several cells, which the identity machine knows nothing of; and
 /// that stays so.
 pub fn law_core_lines_are_done()
     ensures { CoreLinesAreDone }

@@ -39,7 +39,7 @@ pub fn desk<S: Source, K: Sink>(
     source: &mut S,
     sink: &mut K,
 ) -> u8
-    // With 0 a read showed the end, and all bytes were taken; and if their lines are core lines, the core machine's replies
+    // With 0 a read showed the end, and all bytes were taken; and if their lines are core lines, the identity machine's replies
     // from the start were appended.
     ensures end { result ≡ 0 → IsSome (setting_of (texts words.now))
         → S.ended source.new ≡ true }

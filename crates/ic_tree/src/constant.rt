@@ -1,5 +1,4 @@
 ghost use Rattle.std.specs.Prelude.{◌≡◌, ◌++◌, chars, string_bytes, OnOk};
-ghost use Rattle.ic_laws.specs.Amount.{amount_text};
 ghost use Rattle.ic_laws.specs.Dialect.{boolean_number, error_number, word_text};
 ghost use Rattle.ic_laws.specs.Token.{string_text};
 ghost use Rattle.ic_laws.specs.declared.dialect.WordKind.TheVariants as kinds;
@@ -7,7 +6,7 @@ ghost use Rattle.ic_tree.specs.Printed.{all_between, constant_text, doubled, dou
 
 use crate::number::error_number;
 use ic_laws::scan::{first_char, push_char, push_text};
-use ic_laws::{Amount, Constant, Dialect, Error, Items, OutOfMemory, WordKind, push_amount};
+use ic_laws::{Constant, Dialect, Error, Items, OutOfMemory, WordKind, push_amount};
 
 /// Appends what stands before the text of this number among several: nothing before the first one, number 0.
 pub fn push_separator(out: &mut String, separator: char, n: usize) -> Result<(), OutOfMemory>

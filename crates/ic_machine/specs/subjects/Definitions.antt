@@ -54,7 +54,7 @@ definition_rows =
     ∷ record { name = codes "is_valid_defined_name"; words = words_of (OfText ∷ OfScope ∷ OfText ∷ []); command = λ w. IsValidDefinedName w.0 w.1.0 w.1.1.0 }
     ∷ record { name = codes "get_defined_name_list"; words = words_of []; command = λ w. GetDefinedNameList } ∷ []
 
--- as the core machine has them ----
+-- as the identity machine has them ----
 
 abbrev pub with_new_definition : Book → List ℕ → Option ℕ → Option Body → Book
 with_new_definition book name scope None = book

@@ -65,7 +65,7 @@ firm_blank = 160
 abbrev pub as_code : List ℕ → ℕ → List ℕ
 as_code symbol c = if c == currency_sign then double_quote ∷ (symbol ++ double_quote ∷ []) else c ∷ []
 
--- a plain blank for a firm one
+-- a plain space for a no-break space
 abbrev pub plain_blank : ℕ → ℕ
 plain_blank c = if c == firm_blank then blank else c
 

@@ -50,7 +50,7 @@ sheet_rows =
     ∷ record { name = codes "get_new_sheet_id"; words = words_of []; command = λ w. GetNewSheetId }
     ∷ record { name = codes "get_worksheets_properties"; words = words_of []; command = λ w. GetWorksheetsProperties } ∷ []
 
--- a step that the core machine has, too, and what it leaves of the whole book ----
+-- a step that the identity machine has, too, and what it leaves of the whole book ----
 
 abbrev pub lifted : Book → core.Command → Book → Stepped Book
 lifted book command left = as_core (core_step (notations_in book) (core_of book) command) left
