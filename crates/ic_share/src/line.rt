@@ -14,8 +14,10 @@ pub fn parts_of(line: &str) -> Option<(&str, &str)>
     ensures { option_map (λ parts. (chars parts.0.now, chars parts.1.now)) result
         ≡ parts_of (chars line.now) }
 {
-    let tab = memchr(b'\t', line.as_bytes())?;
-    Some((&line[..tab], &line[tab + 1..]))
+    match memchr(b'\t', line.as_bytes()) {
+        Some(tab) => Some((&line[..tab], &line[tab + 1..])),
+        None => None,
+    }
 }
 
 /// The user that a word spells: any text that isn't empty; None where the word has a wrong escape. Memory is asked for only
