@@ -1,0 +1,5 @@
+pub mod KnownLemmas
+pub mod LeaveOutLemmas
+pub mod LineLemmas
+pub mod MapLemmas
+pub mod UsersLemmas

@@ -1,0 +1,5 @@
+pub mod Desk
+pub mod LeaveOut
+pub mod Share
+pub mod Shared
+pub mod Users
