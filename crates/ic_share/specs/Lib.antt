@@ -1,4 +1,3 @@
-pub mod Desk
 pub mod LeaveOut
 pub mod Share
 pub mod Shared

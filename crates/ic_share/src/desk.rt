@@ -1,15 +1,13 @@
 //! What the program does with its words.
-ghost use Rattle.std.specs.Prelude.{◌≡◌, ◌≢◌, ◌⊎◌, ◌↔◌, ◌+◌, ◌<◌, ◌≤◌, ◌^◌, [], true, Err, chars, length, option_map, IfSome, IsNone, IsSome, IsSomeAnd};
+ghost use Rattle.std.specs.Prelude.{◌≡◌, ◌≢◌, ◌⊎◌, ◌↔◌, ◌+◌, ◌<◌, ◌≤◌, ◌^◌, [], true, Err, length, IfSome, IsNone, IsSome, IsSomeAnd};
 ghost use Rattle.ic_lines.specs.Bytes.{IfTold, HasFault};
-ghost use Rattle.ic_run.specs.Desk.{run_status, setting_of, start_book, start_refusal, start_status, texts};
-ghost use Rattle.ic_run.specs.Make.{made_setting};
-ghost use Rattle.ic_share.specs.Desk.{setting};
+ghost use Rattle.ic_run.specs.Desk.{run_status, setting_of, start_book, start_refusal, texts};
+ghost use Rattle.ic_run.specs.Start.{setting};
 ghost use Rattle.ic_share.specs.Share.{AppendsSharedFrom, LeavesSharedFrom};
 
 use crate::lines::share;
-use ic_book::{BookError, Model};
-use ic_laws::scan::same_text;
 use ic_lines::{RunError, Sink, Source};
+use ic_run::{Start, first_book, start_named, status_of};
 use ic_tables::Tables;
 use jiff::Timestamp;
 use std::alloc::Global;
@@ -74,45 +72,6 @@ pub fn share_desk<S: Source, K: Sink>(
     }
 }
 
-/// The locale, the language and the zone that the program begins with.
-#[derive(Drop)]
-pub struct Start<'a> {
-    locale: &'a str,
-    language: &'a str,
-    zone: &'a str,
-}
-
-/// What the words name: en, en and UTC where there are none; None where they are no stated form.
-fn start_named(words: &[String]) -> Option<Start<'_>>
-    ensures { option_map setting result ≡ setting_of (texts words.now) }
-{
-    if words.is_empty() {
-        return Some(english_start());
-    }
-    if words.len() != 4 {
-        return None;
-    }
-    if !same_text(words[0].as_str(), "run") {
-        return None;
-    }
-    Some(Start {
-        locale: words[1].as_str(),
-        language: words[2].as_str(),
-        zone: words[3].as_str(),
-    })
-}
-
-/// en, en and UTC.
-fn english_start() -> Start<'static>
-    ensures { setting result ≡ made_setting }
-{
-    Start {
-        locale: "en",
-        language: "en",
-        zone: "UTC",
-    }
-}
-
 /// Answers the lines of a source on the new book of a start, and answers the status. The book isn't taken apart: its memory
 /// goes with the process.
 fn share_from<S: Source, K: Sink>(
@@ -148,45 +107,12 @@ fn share_from<S: Source, K: Sink>(
         → ¬ HasFault (K.faults sink.old) (K.faults sink.new)
         → (result ≡ 0) ⊎ (result ≡ 6) }
 {
-    let book = Model::new_empty(
-        alloc,
-        "workbook",
-        start.locale,
-        start.zone,
-        start.language,
-        tables,
-        moment,
-    );
-    match book {
+    match first_book(alloc, start, tables, moment) {
         Ok(mut model) => {
             let answer = share(alloc, &mut model, source, sink);
             let _ = ManuallyDrop::new(model);
             status_of(answer)
         }
-        Err(e) => status_without_book(&e),
-    }
-}
-
-/// The status where there is no book to begin with.
-fn status_without_book(e: &BookError) -> u8
-    ensures status { result ≡ start_status e.now }
-    ensures which { (result ≡ 2) ⊎ (result ≡ 6) }
-{
-    match e {
-        BookError::OutOfMemory => 6,
-        _ => 2,
-    }
-}
-
-/// The status for what `share` answered.
-fn status_of(answer: Result<u64, RunError>) -> u8
-    ensures { result ≡ run_status answer }
-{
-    match answer {
-        Ok(_) => 0,
-        Err(RunError::ReadFault) => 3,
-        Err(RunError::WriteFault) => 4,
-        Err(RunError::TooManyTurns) => 5,
-        Err(RunError::OutOfMemory) => 6,
+        Err(status) => status,
     }
 }

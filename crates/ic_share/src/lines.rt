@@ -1,16 +1,15 @@
-//! The loop: lines of many users are read, answered and replied to.
-ghost use Rattle.std.specs.Prelude.{◌≡◌, ◌⊎◌, ◌+◌, ◌++◌, ◌<◌, ◌≤◌, ◌^◌, true, Err, length, IfOk, IfErr, IsSomeAnd, OnErr, OnOk, string_bytes};
-ghost use Rattle.ic_lines.specs.Bytes.{AppendsFront, HasFault, IfTold};
-ghost use Rattle.ic_book.specs.Whole.{whole_of};
+//! Lines of many users, read, answered and replied to.
+ghost use Rattle.std.specs.Prelude.{◌≡◌, ◌+◌, ◌<◌, ◌≤◌, ◌^◌, true, Err, length, IfOk, IfErr, IsSomeAnd, OnOk};
+ghost use Rattle.ic_lines.specs.Bytes.{HasFault, IfTold};
 ghost use Rattle.ic_run.specs.Run.{HasCause};
-ghost use Rattle.ic_share.specs.Share.{AppendsShared, DoesShared, IsKnown, LeavesShared, SharesAll, shared_by};
-ghost use Rattle.ic_share.specs.Shared.{share_machine};
+ghost use Rattle.ic_share.specs.Share.{AppendsShared, LeavesShared, SharesAll};
 
 use crate::users::Users;
 use ic_book::Model;
-use ic_lines::{Line, LineReader, RunError, Sink, Source, write_all};
+use ic_laws::OutOfMemory;
+use ic_lines::{Line, RunError, Sink, Source};
+use ic_run::{Answers, answer_each};
 use std::alloc::Global;
-use std::mem;
 
 /// Answers the lines of a source, one reply a line, each in the book with the language of its user, and answers their number.
 /// It answers every whole line that it has before it reads again. A line has a user's word, a tab, and a command line; a user
@@ -63,47 +62,30 @@ pub fn share<S: Source, K: Sink>(
         → IfErr result (λ e. e ≡ RunError.OutOfMemory) }
 {
     let mut users = Users::of(alloc, model)?;
-    let mut reader = LineReader::new(alloc);
-    let mut room = String::new(alloc);
-    let mut count = 0;
-    'lines: while let Some(line) = reader.next_line(source)? {
-        answer_to(alloc, &mut users, model, &line, &mut room, sink)?;
-        count += 1;
-    }
-    Ok(count)
+    answer_each(alloc, &mut users, model, source, sink)
 }
 
-/// Answers one line into the sink, in one write. The reply stays in `room`, whose memory the next one has.
-fn answer_to<K: Sink>(
-    alloc: Global,
-    users: &mut Users,
-    model: &mut Model<'_>,
-    line: &Line,
-    room: &mut String,
-    sink: &mut K,
-) -> Result<(), RunError>
-    requires own { users.old.own ≡ model.old.book.language }
-    requires known { IsKnown (shared_by users.old model.old.book) }
-    ensures reply { OnOk result (IfTold (K.written sink.old) (K.written sink.new)
-        (λ before now. now
-        ≡ before ++ (share_machine (shared_by users.old model.old.book) line.now).1)) }
-    ensures left { OnOk result (shared_by users.new model.new.book
-        ≡ (share_machine (shared_by users.old model.old.book) line.now).0) }
-    ensures own { users.new.own ≡ users.old.own }
-    ensures which { IfErr result (λ e. (e ≡ RunError.OutOfMemory) ⊎ (e ≡ RunError.WriteFault)) }
-    ensures no_memory { result ≡ Err RunError.OutOfMemory
-        → (whole_of model.new.book ≡ whole_of model.old.book) × (sink.new ≡ sink.old) }
-    ensures write_fault { result ≡ Err RunError.WriteFault
-        → HasFault (K.faults sink.old) (K.faults sink.new)
-        × (shared_by users.new model.new.book
-        ≡ (share_machine (shared_by users.old model.old.book) line.now).0)
-        × IfTold (K.written sink.old) (K.written sink.new) (AppendsFront
-        (share_machine (shared_by users.old model.old.book) line.now).1) }
-    ensures counted { K.faults sink.old ≤ K.faults sink.new }
-    ensures quiet { OnOk result (K.faults sink.new ≡ K.faults sink.old) }
-{
-    let last = mem::replace(room, String::new(alloc));
-    let reply = users.reply_in(alloc, model, line, last)?;
-    *room = reply;
-    write_all(sink, room.as_bytes())
+impl Answers for Users {
+    ghost use Rattle.std.specs.Prelude.{◌≡◌};
+    ghost use Rattle.ic_book.specs.Book.{ModelState};
+    ghost use Rattle.ic_book.specs.Whole.{whole_of};
+    ghost use Rattle.ic_share.specs.Share.{DoesShared, IsKnown, shared_by};
+
+    ghost is_ready = { λ users model. (users.own ≡ model.book.language)
+        × IsKnown (shared_by users model.book) };
+
+    ghost does = { λ line old new told. (new.0.own ≡ old.0.own)
+        × DoesShared line (shared_by old.0 old.1.book) (shared_by new.0 new.1.book) told };
+
+    ghost stays = { λ old new. whole_of new.1.book ≡ whole_of old.1.book };
+
+    fn reply_in(
+        &mut self,
+        alloc: Global,
+        model: &mut Model<'_>,
+        line: &Line,
+        last: String,
+    ) -> Result<String, OutOfMemory> {
+        Users::answered(self, alloc, model, line, last)
+    }
 }

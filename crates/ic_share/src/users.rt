@@ -74,7 +74,7 @@ impl Users {
 
     /// Answers a line in the book with the language of its user, who has another one from then on where they chose it. Nobody's
     /// line is bad. The book's own language is in force before and after. Where memory runs out all is as it was.
-    pub fn reply_in(
+    pub fn answered(
         &mut self,
         alloc: Global,
         model: &mut Model<'_>,
