@@ -1,0 +1,95 @@
+-- Which lines choose a language: those with the name of that command alone, if they are commands.
+use Rattle.std.proofs.Common.{◌≡◌, ℕ, List, [], ◌∷◌, ◌++◌, Bool, true, false, cond, map, Option, Some, None, bytes_eq, codes, option_map, refl, sym, ap, subst, ◌∙◌}
+use Rattle.std.specs.List.{AllByRecursion, find}
+use Rattle.std.specs.Prelude.{IfSome, IsSome}
+use Rattle.std.specs.Str.{chars}
+use Rattle.std.proofs.lemmas.Slice.Eq.{bytes_eq-Decides}
+use Rattle.ic_laws.specs.Lines as lines
+use Rattle.ic_machine.specs.Command.{Command, OnArrays, OnDefinitions, OnExtending, OnLayout, OnNotation, OnReading, OnSheets, OnStyles, OnTabs, OnWriting, command_in, commands}
+use Rattle.ic_machine.specs.Row.{Row, joined, named, row_in, spelled}
+use Rattle.ic_machine.specs.Word.{AllSaid, OfText, words_of, words_said}
+use Rattle.ic_machine.specs.subjects.Arrays.{array_rows}
+use Rattle.ic_machine.specs.subjects.Definitions.{definition_rows}
+use Rattle.ic_machine.specs.subjects.Extending.{extending_rows}
+use Rattle.ic_machine.specs.subjects.Layout.{layout_rows}
+use Rattle.ic_machine.specs.subjects.Notation.{SetLanguage, notation_rows}
+use Rattle.ic_machine.specs.subjects.Reading.{reading_rows}
+use Rattle.ic_machine.specs.subjects.Sheets.{sheet_rows}
+use Rattle.ic_machine.specs.subjects.Styles.{style_rows}
+use Rattle.ic_machine.specs.subjects.Tabs.{tab_rows}
+use Rattle.ic_machine.specs.subjects.Writing.{writing_rows}
+use Rattle.ic_share.proofs.LineLemmas.{words_cut, words_uncut}
+use Rattle.ic_share.specs.Shared.{language_chosen}
+use Rattle.ic_share.specs.Users.{parts_of}
+
+abbrev set_language : List ℕ
+set_language = codes "set_language"
+
+-- no other row makes a command that chooses a language
+abbrev IsNoChoice : Row Command → Type 0
+IsNoChoice row = bytes_eq row.name set_language ≡ false → (said : AllSaid row.words) → language_chosen (Some (row.command said)) ≡ None
+
+all_in : {C : Type 0} (subject : C → Command) → ((x : C) → language_chosen (Some (subject x)) ≡ None) → (rows : List (Row C)) → AllByRecursion IsNoChoice (map (row_in subject) rows)
+all_in subject none [] = tt
+all_in subject none (row ∷ rows) = (λ e said. none (row.command said), all_in subject none rows)
+
+all_joined : (one other : List (Row Command)) → AllByRecursion IsNoChoice one → AllByRecursion IsNoChoice other → AllByRecursion IsNoChoice (one ++ other)
+all_joined [] other p q = q
+all_joined (row ∷ one) other p q = (p.0, all_joined one other p.1 q)
+
+notation_all : AllByRecursion IsNoChoice (map (row_in OnNotation) notation_rows)
+notation_all = (λ e said. refl, (λ e said. absurd (let no : true ≡ false = e in cc), (λ e said. refl, (λ e said. refl, (λ e said. refl, (λ e said. refl, (λ e said. refl, tt)))))))
+
+all_rows : AllByRecursion IsNoChoice commands
+unfolding commands
+all_rows =
+    all_joined (map (row_in OnSheets) sheet_rows) _ (all_in OnSheets (λ x. refl) sheet_rows)
+    (all_joined (map (row_in OnDefinitions) definition_rows) _ (all_in OnDefinitions (λ x. refl) definition_rows)
+    (all_joined (map (row_in OnNotation) notation_rows) _ notation_all
+    (all_joined (map (row_in OnWriting) writing_rows) _ (all_in OnWriting (λ x. refl) writing_rows)
+    (all_joined (map (row_in OnReading) reading_rows) _ (all_in OnReading (λ x. refl) reading_rows)
+    (all_joined (map (row_in OnExtending) extending_rows) _ (all_in OnExtending (λ x. refl) extending_rows)
+    (all_joined (map (row_in OnStyles) style_rows) _ (all_in OnStyles (λ x. refl) style_rows)
+    (all_joined (map (row_in OnLayout) layout_rows) _ (all_in OnLayout (λ x. refl) layout_rows)
+    (all_joined (map (row_in OnTabs) tab_rows) _ (all_in OnTabs (λ x. refl) tab_rows)
+    (all_in OnArrays (λ x. refl) array_rows)))))))))
+
+module _ (english : List (List ℕ)) where
+  by_words : (row : Row Command) → ((said : AllSaid row.words) → language_chosen (Some (row.command said)) ≡ None) → (o : Option (AllSaid row.words)) → language_chosen (option_map row.command o) ≡ None
+  by_words row none None = refl
+  by_words row none (Some said) = none said
+
+  unchosen : (rows : List (Row Command)) → AllByRecursion IsNoChoice rows → (name : List ℕ) (words : List (List ℕ)) → bytes_eq name set_language ≡ false → language_chosen (joined (named english rows name words)) ≡ None
+  unchosen [] all name words e = refl
+  unchosen (row ∷ rows) all name words e = by_name (bytes_eq row.name name) refl (unchosen rows all.1 name words e)
+    where
+      by_name : (is : Bool) → bytes_eq row.name name ≡ is → language_chosen (joined (named english rows name words)) ≡ None
+          → language_chosen (joined (option_map (λ (r : Row Command). option_map r.command (words_said english r.words words)) (cond is (Some row) (find (λ (r : Row Command). bytes_eq r.name name) rows)))) ≡ None
+      by_name true is later = by_words row (all.0 (ap (λ n. bytes_eq n set_language) ((bytes_eq-Decides row.name name).0 is) ∙ e)) (words_said english row.words words)
+      by_name false is later = later
+
+  -- the row of that name makes one
+  chosen : (words : List (List ℕ)) → spelled english commands (set_language ∷ words) ≡ option_map (λ w. OnNotation (SetLanguage w.0)) (words_said english (words_of (OfText ∷ [])) words)
+  unfolding commands
+  chosen words = refl
+
+  is_chosen : (o : Option (AllSaid (words_of (OfText ∷ [])))) → IfSome (option_map (λ w. OnNotation (SetLanguage w.0)) o) (λ c. IsSome (language_chosen (Some c)))
+  is_chosen None = tt
+  is_chosen (Some said) = refl
+
+  -- Of a line. ----
+
+  pub other_command : (line name rest : List ℕ) → Some (name, rest) ≡ parts_of line → bytes_eq name set_language ≡ false → language_chosen (command_in english commands line) ≡ None
+  other_command line name rest e other = ap (λ words. language_chosen (spelled english commands words)) (words_cut line name rest e) ∙ unchosen commands all_rows name _ other
+
+  lone_word : (name : List ℕ) (is : Bool) → bytes_eq name set_language ≡ is → language_chosen (spelled english commands (name ∷ [])) ≡ None
+  lone_word name true is = ap (λ n. language_chosen (spelled english commands (n ∷ []))) ((bytes_eq-Decides name set_language).0 is) ∙ ap language_chosen (chosen [])
+  lone_word name false other = unchosen commands all_rows name [] other
+
+  pub no_command : (line : List ℕ) → None ≡ parts_of line → language_chosen (command_in english commands line) ≡ None
+  no_command line e = ap (λ words. language_chosen (spelled english commands words)) (words_uncut line e) ∙ lone_word line _ refl
+
+  pub its_command : (line name rest : List ℕ) → Some (name, rest) ≡ parts_of line → bytes_eq name set_language ≡ true → IfSome (command_in english commands line) (λ c. IsSome (language_chosen (Some c)))
+  its_command line name rest e is =
+      let spells = ap (spelled english commands) (words_cut line name rest e) ∙ ap (λ n. spelled english commands (n ∷ lines.words_of rest)) ((bytes_eq-Decides name set_language).0 is) ∙ chosen (lines.words_of rest) in
+      subst (λ o. IfSome o (λ c. IsSome (language_chosen (Some c)))) (sym spells) (is_chosen _)
