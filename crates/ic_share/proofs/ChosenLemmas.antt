@@ -25,6 +25,10 @@ use Rattle.ic_share.specs.Users.{parts_of}
 abbrev set_language : List ℕ
 set_language = codes "set_language"
 
+name_chars : chars set_language ≡ set_language
+unfolding chars
+name_chars = refl
+
 -- no other row makes a command that chooses a language
 abbrev IsNoChoice : Row Command → Type 0
 IsNoChoice row = bytes_eq row.name set_language ≡ false → (said : AllSaid row.words) → language_chosen (Some (row.command said)) ≡ None
@@ -79,7 +83,7 @@ module _ (english : List (List ℕ)) where
 
   -- Of a line. ----
 
-  pub other_command : (line name rest : List ℕ) → Some (name, rest) ≡ parts_of line → bytes_eq name set_language ≡ false → language_chosen (command_in english commands line) ≡ None
+  other_command : (line name rest : List ℕ) → Some (name, rest) ≡ parts_of line → bytes_eq name set_language ≡ false → language_chosen (command_in english commands line) ≡ None
   other_command line name rest e other = ap (λ words. language_chosen (spelled english commands words)) (words_cut line name rest e) ∙ unchosen commands all_rows name _ other
 
   lone_word : (name : List ℕ) (is : Bool) → bytes_eq name set_language ≡ is → language_chosen (spelled english commands (name ∷ [])) ≡ None
@@ -89,7 +93,19 @@ module _ (english : List (List ℕ)) where
   pub no_command : (line : List ℕ) → None ≡ parts_of line → language_chosen (command_in english commands line) ≡ None
   no_command line e = ap (λ words. language_chosen (spelled english commands words)) (words_uncut line e) ∙ lone_word line _ refl
 
-  pub its_command : (line name rest : List ℕ) → Some (name, rest) ≡ parts_of line → bytes_eq name set_language ≡ true → IfSome (command_in english commands line) (λ c. IsSome (language_chosen (Some c)))
+  its_command : (line name rest : List ℕ) → Some (name, rest) ≡ parts_of line → bytes_eq name set_language ≡ true → IfSome (command_in english commands line) (λ c. IsSome (language_chosen (Some c)))
   its_command line name rest e is =
       let spells = ap (spelled english commands) (words_cut line name rest e) ∙ ap (λ n. spelled english commands (n ∷ lines.words_of rest)) ((bytes_eq-Decides name set_language).0 is) ∙ chosen (lines.words_of rest) in
       subst (λ o. IfSome o (λ c. IsSome (language_chosen (Some c)))) (sym spells) (is_chosen _)
+
+-- By what a test of the name tells. ----
+
+module _ (line name rest : List ℕ) (is : Bool) (cut : Some (name, rest) ≡ parts_of line) (tells : is ≡ bytes_eq name (chars set_language)) where
+  told : (t : Bool) → is ≡ t → bytes_eq name set_language ≡ t
+  told t e = ap (bytes_eq name) (sym name_chars) ∙ sym tells ∙ e
+
+  pub tells_no : is ≡ false → (english : List (List ℕ)) → language_chosen (command_in english commands line) ≡ None
+  tells_no e english = other_command english line name rest cut (told false e)
+
+  pub tells_yes : is ≡ true → (english : List (List ℕ)) → IfSome (command_in english commands line) (λ c. IsSome (language_chosen (Some c)))
+  tells_yes e english = its_command english line name rest cut (told true e)
