@@ -8,7 +8,7 @@ use Rattle.ic_laws.specs.Lines as lines
 use Rattle.ic_machine.specs.Command.{Command, OnArrays, OnDefinitions, OnExtending, OnLayout, OnNotation, OnReading, OnSheets, OnStyles, OnTabs, OnWriting, command_in, commands}
 use Rattle.ic_machine.specs.Row.{Row, joined, named, row_in, spelled}
 use Rattle.ic_machine.specs.Word.{AllSaid, OfText, words_of, words_said}
-use Rattle.ic_machine.specs.subjects.Arrays.{array_rows}
+use Rattle.ic_machine.specs.subjects.Arrays.{Arrays, array_rows}
 use Rattle.ic_machine.specs.subjects.Definitions.{definition_rows}
 use Rattle.ic_machine.specs.subjects.Extending.{extending_rows}
 use Rattle.ic_machine.specs.subjects.Layout.{layout_rows}
@@ -18,6 +18,7 @@ use Rattle.ic_machine.specs.subjects.Sheets.{sheet_rows}
 use Rattle.ic_machine.specs.subjects.Styles.{style_rows}
 use Rattle.ic_machine.specs.subjects.Tabs.{tab_rows}
 use Rattle.ic_machine.specs.subjects.Writing.{writing_rows}
+use Rattle.ic_words.proofs.SubjectLemmas.{from_arrays, from_definitions, from_extending, from_layout, from_notation, from_reading, from_styles, from_tabs, from_writing}
 use Rattle.ic_share.proofs.LineLemmas.{words_cut, words_uncut}
 use Rattle.ic_share.specs.Shared.{language_chosen}
 use Rattle.ic_share.specs.Users.{parts_of}
@@ -33,30 +34,30 @@ name_chars = refl
 abbrev IsNoChoice : Row Command → Type 0
 IsNoChoice row = bytes_eq row.name set_language ≡ false → (said : AllSaid row.words) → language_chosen (Some (row.command said)) ≡ None
 
-all_in : {C : Type 0} (subject : C → Command) → ((x : C) → language_chosen (Some (subject x)) ≡ None) → (rows : List (Row C)) → AllByRecursion IsNoChoice (map (row_in subject) rows)
-all_in subject none [] = tt
-all_in subject none (row ∷ rows) = (λ e said. none (row.command said), all_in subject none rows)
+behind : {C : Type 0} (subject : C → Command) → ((x : C) → language_chosen (Some (subject x)) ≡ None) → (rows : List (Row C)) (more : List (Row Command)) → AllByRecursion IsNoChoice more → AllByRecursion IsNoChoice (map (row_in subject) rows ++ more)
+behind subject none [] more all = all
+behind subject none (row ∷ rows) more all = (λ e said. none (row.command said), behind subject none rows more all)
 
-all_joined : (one other : List (Row Command)) → AllByRecursion IsNoChoice one → AllByRecursion IsNoChoice other → AllByRecursion IsNoChoice (one ++ other)
-all_joined [] other p q = q
-all_joined (row ∷ one) other p q = (p.0, all_joined one other p.1 q)
-
-notation_all : AllByRecursion IsNoChoice (map (row_in OnNotation) notation_rows)
-notation_all = (λ e said. refl, (λ e said. absurd (let no : true ≡ false = e in cc), (λ e said. refl, (λ e said. refl, (λ e said. refl, (λ e said. refl, (λ e said. refl, tt)))))))
+behind_notation : (more : List (Row Command)) → AllByRecursion IsNoChoice more → AllByRecursion IsNoChoice (map (row_in OnNotation) notation_rows ++ more)
+behind_notation more all = (λ e said. refl, (λ e said. absurd (let no : true ≡ false = e in cc), (λ e said. refl, (λ e said. refl, (λ e said. refl, (λ e said. refl, (λ e said. refl, all)))))))
 
 all_rows : AllByRecursion IsNoChoice commands
 unfolding commands
 all_rows =
-    all_joined (map (row_in OnSheets) sheet_rows) _ (all_in OnSheets (λ x. refl) sheet_rows)
-    (all_joined (map (row_in OnDefinitions) definition_rows) _ (all_in OnDefinitions (λ x. refl) definition_rows)
-    (all_joined (map (row_in OnNotation) notation_rows) _ notation_all
-    (all_joined (map (row_in OnWriting) writing_rows) _ (all_in OnWriting (λ x. refl) writing_rows)
-    (all_joined (map (row_in OnReading) reading_rows) _ (all_in OnReading (λ x. refl) reading_rows)
-    (all_joined (map (row_in OnExtending) extending_rows) _ (all_in OnExtending (λ x. refl) extending_rows)
-    (all_joined (map (row_in OnStyles) style_rows) _ (all_in OnStyles (λ x. refl) style_rows)
-    (all_joined (map (row_in OnLayout) layout_rows) _ (all_in OnLayout (λ x. refl) layout_rows)
-    (all_joined (map (row_in OnTabs) tab_rows) _ (all_in OnTabs (λ x. refl) tab_rows)
-    (all_in OnArrays (λ x. refl) array_rows)))))))))
+    behind OnSheets (λ x. refl) sheet_rows from_definitions
+    (behind OnDefinitions (λ x. refl) definition_rows from_notation
+    (behind_notation from_writing
+    (behind OnWriting (λ x. refl) writing_rows from_reading
+    (behind OnReading (λ x. refl) reading_rows from_extending
+    (behind OnExtending (λ x. refl) extending_rows from_styles
+    (behind OnStyles (λ x. refl) style_rows from_layout
+    (behind OnLayout (λ x. refl) layout_rows from_tabs
+    (behind OnTabs (λ x. refl) tab_rows from_arrays
+    (arrays_alone array_rows)))))))))
+  where
+    arrays_alone : (rows : List (Row Arrays)) → AllByRecursion IsNoChoice (map (row_in OnArrays) rows)
+    arrays_alone [] = tt
+    arrays_alone (row ∷ rows) = (λ e said. refl, arrays_alone rows)
 
 module _ (english : List (List ℕ)) where
   by_words : (row : Row Command) → ((said : AllSaid row.words) → language_chosen (Some (row.command said)) ≡ None) → (o : Option (AllSaid row.words)) → language_chosen (option_map row.command o) ≡ None
@@ -84,7 +85,7 @@ module _ (english : List (List ℕ)) where
   -- Of a line. ----
 
   other_command : (line name rest : List ℕ) → Some (name, rest) ≡ parts_of line → bytes_eq name set_language ≡ false → language_chosen (command_in english commands line) ≡ None
-  other_command line name rest e other = ap (λ words. language_chosen (spelled english commands words)) (words_cut line name rest e) ∙ unchosen commands all_rows name _ other
+  other_command line name rest e other = ap (λ words. language_chosen (spelled english commands words)) (words_cut line name rest e) ∙ unchosen commands all_rows name (lines.words_of rest) other
 
   lone_word : (name : List ℕ) (is : Bool) → bytes_eq name set_language ≡ is → language_chosen (spelled english commands (name ∷ [])) ≡ None
   lone_word name true is = ap (λ n. language_chosen (spelled english commands (n ∷ []))) ((bytes_eq-Decides name set_language).0 is) ∙ ap language_chosen (chosen [])

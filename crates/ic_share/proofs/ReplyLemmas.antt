@@ -1,5 +1,5 @@
 -- A reply without a refusal is told from others by its first byte.
-use Rattle.std.proofs.Common.{◌≡◌, ℕ, List, [], ◌∷◌, ◌++◌, ◌==◌, Bool, true, false, Ok, Err, encode_utf8_all, flat_map, refl, ap, ◌∙◌}
+use Rattle.std.proofs.Common.{◌≡◌, ℕ, List, [], ◌∷◌, ◌++◌, ◌==◌, Bool, true, false, Ok, Err, encode_utf8_all, flat_map, refl, ap, sym, ◌∙◌}
 use lib.Utf8.{encode}
 use Rattle.std.specs.Str.{IsUtf8, chars}
 use Rattle.std.proofs.lemmas.Str.{chars-append}
@@ -38,3 +38,7 @@ with_e cs more = first_is 101 (encode_utf8_all cs ++ more) e_utf8 e_chars
 pub begins_ok : (reply : Reply) → begins_with_o (chars (reply_bytes reply)) ≡ is_ok reply
 begins_ok (Ok fields) = with_o (107 ∷ flat_map field_word fields) (10 ∷ [])
 begins_ok (Err refusal) = with_e (114 ∷ 114 ∷ 111 ∷ 114 ∷ 9 ∷ refusal_name refusal) (10 ∷ [])
+
+-- so a test of its bytes tells whether it is one
+pub told_ok : (bytes text : List ℕ) (reply : Reply) (is t : Bool) → is ≡ begins_with_o (chars text) → text ≡ bytes → bytes ≡ reply_bytes reply → is ≡ t → is_ok reply ≡ t
+told_ok bytes text reply is t tells same told e = sym (begins_ok reply) ∙ sym (ap (λ b. begins_with_o (chars b)) (same ∙ told)) ∙ sym tells ∙ e

@@ -37,7 +37,7 @@ module _ (users : UsersState) (book : Held) (own : users.own ≡ book.language) 
   -- also after a step, and where there was none
   pub own_known_after : {E : Type 0} (language line : List ℕ) (one two : ModelState) (result : Result (String Global) E) → whole_of one.book ≡ in_language language (whole_of book) → IfOk result (λ reply. DoesLine line one two (string_bytes reply))
       → OnErr result (in_language [] (whole_of two.book) ≡ in_language [] (whole_of one.book)) → (notations_in (whole_of two.book)).knows_language users.own ≡ true
-  own_known_after language line one two result e does err = subst (λ (tables : TableSet). (notations_of tables).knows_language users.own ≡ true) (sym (same result does err ∙ ap (λ (b : Book). b.tables) e)) own_known
+  own_known_after {E = E} language line one two result e does err = subst (λ (tables : TableSet). (notations_of tables).knows_language users.own ≡ true) (sym (same result does err ∙ ap (λ (b : Book). b.tables) e)) own_known
     where
       same : (r : Result (String Global) E) → IfOk r (λ reply. DoesLine line one two (string_bytes reply)) → OnErr r (in_language [] (whole_of two.book) ≡ in_language [] (whole_of one.book)) → (whole_of two.book).tables ≡ (whole_of one.book).tables
       same (Ok reply) h k = ap (λ (b : Book). b.tables) h.book ∙ tables_stay (whole_of one.book) line
