@@ -12,7 +12,7 @@ ghost use Rattle.ic_import.specs.Records.{all_fields, records_of};
 ghost use Rattle.ic_import.specs.Typed.{Typable};
 
 use crate::ImportError;
-use crate::places::{Start, Survey, survey};
+use crate::places::{Start, Survey, survey_fields};
 use crate::typing::type_all;
 use ic_book::{BookError, Model};
 use ic_laws::OutOfMemory;
@@ -173,7 +173,7 @@ fn look_over(
         row: at.row,
         column: at.column,
     };
-    match survey(alloc, bytes, separator, start)? {
+    match survey_fields(alloc, bytes, separator, start)? {
         Survey::Typable => Ok(()),
         Survey::NotUtf8(number) => Err(ImportError::NotUtf8 {
             at_record: number.at_record,

@@ -38,7 +38,7 @@ pub struct Start {
 
 /// Looks at all fields of bytes, with this byte between them, where the first one is to stand at a place of the sheet. Only
 /// memory can be missing.
-pub fn survey(
+pub fn survey_fields(
     alloc: Global,
     bytes: &[u8],
     separator: u8,
