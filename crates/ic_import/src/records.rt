@@ -43,9 +43,9 @@ impl<'b> Records<'b> {
     pub fn take(&mut self, fields: &mut ByteRecord) -> Result<bool, OutOfMemory>
         ensures { IfOk result (λ found. TakesRecord found self.old self.new (fields_of fields.new)) }
     {
-        match self.reader.read_byte_record(fields) {
-            Ok(found) => Ok(found),
-            Err(_) => Err(OutOfMemory),
-        }
+        let Ok(found) = self.reader.read_byte_record(fields) else {
+            return Err(OutOfMemory);
+        };
+        Ok(found)
     }
 }
