@@ -9,9 +9,15 @@ use std::alloc::Global;
 use std::marker::Model;
 
 /// The records of borrowed bytes that weren't taken yet.
-#[derive(Drop)]
 pub struct Records<'b> {
     reader: Reader<&'b [u8]>,
+}
+
+impl Drop for Records<'_> {
+    fn drop(self) {
+        let Self { reader } = self;
+        drop(reader);
+    }
 }
 
 impl<'b> Model for Records<'b> {
