@@ -1,12 +1,15 @@
 -- Fields by their numbers: what is found in the fields of a record one after another, and in records one after another.
 use Rattle.std.proofs.Common.{◌≡◌, ◌⊎◌, inl, inr, ◌<◌, ◌≤◌, ◌+◌, ◌++◌, ℕ, suc, zero, List, [], ◌∷◌, Bool, true, false, Option, Some, None, cond, drop, length, IsUtf8, refl, sym, ap, ◌∙◌, arith, subst, add-one}
-use Rattle.std.specs.Prelude.{find, not}
+use Rattle.std.specs.Prelude.{find, not, option_map}
+use Rattle.std.specs.Option.{option_or}
+use Rattle.std.proofs.lemmas.List.Folds.{find-append}
 use Rattle.std.specs.Str.{is_utf8}
 use Rattle.std.proofs.lemmas.Str.{IsUtf8-from_is_utf8, is_utf8-from_IsUtf8}
 use Rattle.csv.specs.Records.{field_at}
 use Rattle.ic_laws.specs.CoreBook.{CellPlace}
-use Rattle.ic_import.specs.Placed.{is_in_sheet, is_outside, place_at}
-use Rattle.ic_import.specs.Records.{Field, fields_in, is_no_text}
+use Rattle.ic_import.specs.Placed.{is_in_sheet, is_outside, number_of, place_at}
+use Rattle.ic_import.specs.Records.{Field, fields_from, fields_in, is_no_text}
+use Rattle.ic_import.specs.declared.places.FieldNumber.{FieldNumber}
 
 -- the fields from one on begin with it; there are none from the end on
 from_field : (fields : List (List ℕ)) (at : ℕ) (bytes : List ℕ) → field_at fields at ≡ Some bytes → drop at fields ≡ bytes ∷ drop (suc at) fields
@@ -80,3 +83,40 @@ unfolding field_at
 no_field [] at h = refl
 no_field (f ∷ fields) zero h = absurd (omega arith)
 no_field (f ∷ fields) (suc at) h = no_field fields at (omega arith)
+
+-- A record before others. ----
+
+-- what is found in a record goes before what is found in the others
+pub found_before : (test : Field → Bool) (at_record : ℕ) (fields : List (List ℕ)) (others : List (List (List ℕ)))
+    → find test (fields_from at_record (fields ∷ others)) ≡ option_or (find test (fields_in at_record 1 fields)) (find test (fields_from (at_record + 1) others))
+found_before test at_record fields others = find-append test (fields_in at_record 1 fields) (fields_from (at_record + 1) others)
+
+-- by numbers alone: it was found before, or is found in the record, or in the others
+pub found_numbers : (o : Option FieldNumber) (test : Field → Bool) (at_record : ℕ) (fields : List (List ℕ)) (others : List (List (List ℕ)))
+    → option_or (option_or o (option_map number_of (find test (fields_in at_record 1 fields)))) (option_map number_of (find test (fields_from (at_record + 1) others)))
+    ≡ option_or o (option_map number_of (find test (fields_from at_record (fields ∷ others))))
+found_numbers (Some number) test at_record fields others = refl
+found_numbers None test at_record fields others = either (find test (fields_in at_record 1 fields)) (find test (fields_from (at_record + 1) others)) ∙ ap (option_map number_of) (sym (found_before test at_record fields others))
+  where
+    either : (a b : Option Field) → option_or (option_map number_of a) (option_map number_of b) ≡ option_map number_of (option_or a b)
+    either None b = refl
+    either (Some f) b = refl
+
+-- none is found by numbers only where none is found
+pub none_found : (o : Option Field) → option_map number_of o ≡ None → o ≡ None
+none_found None e = refl
+none_found (Some f) e = cc
+
+-- the first that was found in a record is the first of all from it on
+pub found_here : (test : Field → Bool) (at_record : ℕ) (fields : List (List ℕ)) (others : List (List (List ℕ))) (number : FieldNumber)
+    → option_map number_of (find test (fields_in at_record 1 fields)) ≡ Some number → option_map number_of (find test (fields_from at_record (fields ∷ others))) ≡ Some number
+found_here test at_record fields others number e = ap (option_map number_of) (found_before test at_record fields others) ∙ here (find test (fields_in at_record 1 fields)) e
+  where
+    here : (o : Option Field) → option_map number_of o ≡ Some number → option_map number_of (option_or o (find test (fields_from (at_record + 1) others))) ≡ Some number
+    here None e = cc
+    here (Some f) e = e
+
+-- where none was found in a record, the first is in the others
+pub passed_here : (test : Field → Bool) (at_record : ℕ) (fields : List (List ℕ)) (others : List (List (List ℕ)))
+    → find test (fields_in at_record 1 fields) ≡ None → find test (fields_from (at_record + 1) others) ≡ find test (fields_from at_record (fields ∷ others))
+passed_here test at_record fields others e = sym (found_before test at_record fields others ∙ ap (λ (o : Option Field). option_or o (find test (fields_from (at_record + 1) others))) e)

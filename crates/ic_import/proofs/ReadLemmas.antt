@@ -110,13 +110,13 @@ pub takes : {R : Type 0} (bytes : R → Option (List ℕ)) (a b : Reader R) (fou
     → (has_failed a ≡ true → found ≡ false) → (reader_trim a ≡ trim.None → Ready a → ReadRecord bytes a b found fields)
     → TakesRecord found (left_of bytes a) (left_of bytes b) fields
 takes bytes a b found fields readable failed reads = elim (either (has_failed a)) [
-    inl is ↦ rw (failed is, is) refl
+  | inl is ↦ rw (failed is, is) refl
   | inr is ↦
       let can = readable is in
       let read = reads can.0 can.1 in
       let next : TakesRecord found (left_of bytes a) (records_known a.config b.state (pending_of (bytes b.rdr) b)) fields = takes_known a.config a.state (source_of bytes a) (pending_of (bytes b.rdr) b) found fields b.state can.3 read.0 in
       rw (read.2, source_pending bytes b read.1) next
-  ]
+]
 
 -- there are no more records of bytes than bytes and one
 unmarked : (a b c : ℕ) (rest : List ℕ) → length (cond (is_bom a b c) rest (a ∷ b ∷ c ∷ rest)) ≤ length (a ∷ b ∷ c ∷ rest)

@@ -4,7 +4,7 @@ ghost use Rattle.std.specs.Fmt.{decimal};
 ghost use Rattle.ic_laws.specs.Character.{line_feed};
 ghost use Rattle.ic_lines.specs.Bytes.{AppendsFront, HasFault, IfTold};
 ghost use Rattle.ic_book.specs.Whole.{whole_of};
-ghost use Rattle.ic_run.specs.Desk.{start_book, start_refusal, texts};
+ghost use Rattle.ic_run.specs.Desk.{start_refusal, texts};
 ghost use Rattle.ic_run.specs.Make.{made_setting};
 ghost use Rattle.ic_run.specs.Translate.{target_refusal};
 ghost use Rattle.ic_import.specs.Desk.{HasWritten, HasWrittenPart, NeverBlocks, SaysOf, first_markup, refused_line, status_of, target, target_of};
@@ -13,12 +13,12 @@ ghost use Rattle.ic_import.specs.Import.{RestsOnBytes};
 use crate::ImportError;
 use crate::asked::{Asked, asked_for};
 use crate::import::import_csv;
-use ic_book::{BookError, Model};
+use ic_book::Model;
 use ic_laws::OutOfMemory;
 use ic_laws::scan::{push_char, push_text};
 use ic_lines::{Sink, Source};
 use ic_refs::CellReferenceIndex;
-use ic_run::written;
+use ic_run::{english_book, written};
 use ic_tables::Tables;
 use jiff::Timestamp;
 use std::alloc::Global;
@@ -121,34 +121,27 @@ fn imported<S: Source, K: Sink>(
         → ¬ HasFault (K.faults sink.old) (K.faults sink.new)
         → (result ≡ 0) ⊎ ((result ≡ 6) ⊎ (result ≡ 8)) }
 {
-    match new_model(alloc, tables, moment) {
+    match english_book(alloc, tables, moment) {
         Ok(mut model) => {
             let at = CellReferenceIndex {
                 sheet: 0,
                 row: 1,
                 column: 1,
             };
-            let result = import_csv(alloc, &mut model, tables, &at, asked.locale, asked.language, source);
+            let result = import_csv(
+                alloc,
+                &mut model,
+                tables,
+                &at,
+                asked.locale,
+                asked.language,
+                source,
+            );
             let status = tell(alloc, &model, &result, sink);
             let _ = ManuallyDrop::new(model);
             status
         }
         Err(status) => status,
-    }
-}
-
-/// A new book in en, en and UTC. Where there is none, the status: 2 exactly where the tables lack `en` or UTC, 6 where memory runs
-/// out.
-fn new_model<'a>(alloc: Global, tables: &'a Tables, moment: Timestamp) -> Result<Model<'a>, u8>
-    ensures start { IfOk result (λ m. m.book
-        ≡ start_book made_setting m.book.metadata.created tables.now) }
-    ensures unknown { (result ≡ Err 2) ↔ IsSome (start_refusal made_setting tables.now) }
-    ensures which { IfErr result (λ status. (status ≡ 2) ⊎ (status ≡ 6)) }
-{
-    match Model::new_empty(alloc, "workbook", "en", "UTC", "en", tables, moment) {
-        Ok(model) => Ok(model),
-        Err(BookError::OutOfMemory) => Err(6),
-        Err(_) => Err(2),
     }
 }
 
@@ -195,14 +188,18 @@ fn told(
 {
     let text = match answer {
         Ok(_) => table(model),
-        Err(ImportError::NotUtf8 {
-            at_record,
-            at_field,
-        }) => refused(alloc, *at_record, *at_field, "NotUtf8"),
-        Err(ImportError::OutsideSheet {
-            at_record,
-            at_field,
-        }) => refused(alloc, *at_record, *at_field, "OutsideSheet"),
+        Err(
+            ImportError::NotUtf8 {
+                at_record,
+                at_field,
+            },
+        ) => refused(alloc, *at_record, *at_field, "NotUtf8"),
+        Err(
+            ImportError::OutsideSheet {
+                at_record,
+                at_field,
+            },
+        ) => refused(alloc, *at_record, *at_field, "OutsideSheet"),
         Err(_) => return Err(status_of(answer)),
     };
     match text {
@@ -239,12 +236,7 @@ fn table(model: &Model<'_>) -> Result<String, OutOfMemory>
 }
 
 /// The line that tells a wrong field by its numbers. Only memory can be missing.
-fn refused(
-    alloc: Global,
-    at_record: u64,
-    at_field: u64,
-    name: &str,
-) -> Result<String, OutOfMemory>
+fn refused(alloc: Global, at_record: u64, at_field: u64, name: &str) -> Result<String, OutOfMemory>
     ensures { IfOk result (λ text. chars (string_bytes text)
         ≡ refused_line at_record at_field (chars name.now)) }
 {
