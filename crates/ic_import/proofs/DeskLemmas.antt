@@ -1,18 +1,24 @@
 -- What the program asks for and writes.
-use Rattle.std.proofs.Common.{String, ◌≡◌, ◌<◌, ◌++◌, ◌∷◌, [], ℕ, List, Option, Some, None, Result, Ok, Err, codes, length, refl, sym, ap, subst, ◌∙◌, arith}
+use Rattle.std.proofs.Common.{String, ◌≡◌, ◌<◌, ◌++◌, ◌∷◌, [], ℕ, List, Bool, true, false, cond, Option, Some, None, option_map, Result, Ok, Err, slice_get, codes, length, append_assoc, refl, sym, ap, subst, ◌∙◌, arith}
+use Rattle.std.proofs.lemmas.Bool.{lt-ltb}
+use Rattle.std.specs.Fmt.{decimal}
 use Rattle.std.specs.Option.{option_map_or}
-use Rattle.std.specs.Prelude.{encode_utf8_all}
+use Rattle.std.specs.Prelude.{IsNone, encode_utf8_all, is_none, not}
 use Rattle.std.specs.Str.{chars}
 use Rattle.std.specs.declared.alloc.Global.{Global}
+use Rattle.ic_laws.specs.Character.{line_feed, tab}
 use Rattle.ic_lines.proofs.ToldLemmas.{IfTold-weaker}
 use Rattle.ic_lines.specs.Bytes.{AppendsFront, IfTold}
-use Rattle.ic_machine.specs.Book.{Book}
-use Rattle.ic_machine.specs.Refusal.{Refusal}
+use Rattle.ic_machine.specs.Book.{Book, Sheet, Stepped, found_or, lacks_sheet, unless_refused}
+use Rattle.ic_machine.specs.Refusal.{InvalidSheet, Refusal, first_refusal}
+use Rattle.ic_machine.specs.Reply.{Field as ReplyField, text_field}
+use Rattle.ic_machine.specs.subjects.Reading.{markup_step, sheet_markup}
 use Rattle.ic_run.specs.Core.{IsPlainBook}
 use Rattle.ic_run.specs.Desk.{texts}
-use Rattle.ic_run.specs.Translate.{Target}
-use Rattle.ic_import.specs.Desk.{NeverRefuses, Says, SaysOf, Writes, WritesPart, request_of, status_of, target_of}
-use Rattle.ic_import.specs.Import.{Leaves, NoText, Outcome, Outside, Refused, RestsOn, RestsOnBytes, Tells, TellsImport, in_notation, outcome, outcome_of, typed_outcome}
+use Rattle.ic_run.specs.Translate.{Target, target_refusal}
+use Rattle.ic_tables.specs.Tables.{language_of, locale_of}
+use Rattle.ic_import.specs.Desk.{NeverRefuses, Says, SaysOf, Writes, WritesPart, request_of, first_markup, refused_line, status_of, target_of}
+use Rattle.ic_import.specs.Import.{Leaves, NoText, Outcome, Outside, Refused, RestsOn, RestsOnBytes, Tells, TellsImport, in_notation, request_causes, request_refusal, outcome, outcome_of, typed_outcome}
 use Rattle.ic_import.specs.Placed.{first_outside}
 use Rattle.ic_import.specs.Records.{Field, first_no_text}
 use Rattle.ic_import.specs.Typed.{Blocked, typed}
@@ -22,12 +28,13 @@ use Rattle.ic_import.proofs.PlainTyping.{all_typed}
 
 -- The words. ----
 
--- two words are taken apart
-two_words : {X : Type 0} (words : List X) → length words ≡ 2 → (a : X) × (b : X) × (words ≡ a ∷ b ∷ [])
-two_words [] h = absurd (omega (arith, h))
-two_words (a ∷ []) h = absurd (omega (arith, h))
-two_words (a ∷ b ∷ []) h = (a, b, refl)
-two_words (a ∷ b ∷ c ∷ words) h = absurd (omega (arith, h))
+en_chars : chars (codes "en") ≡ codes "en"
+unfolding chars
+en_chars = refl
+
+-- no words
+pub no_words : (words : List (String Global)) → words ≡ [] → Some (record { locale = chars (codes "en"); language = chars (codes "en") }) ≡ target_of (texts words)
+no_words words e = ap (λ (n : List ℕ). let given : Target = record { locale = n; language = n } in Some given) en_chars ∙ ap (λ ws. target_of (texts ws)) (sym e)
 
 -- An answer says what the outcome does. ----
 
@@ -97,3 +104,81 @@ never_refuses t book left (Err (errors.OutsideSheet i j)) before now plain some 
 never_refuses t book left (Err errors.ReadFault) before now plain some rests no = tt
 never_refuses t book left (Err errors.TooManyTurns) before now plain some rests no = tt
 never_refuses t book left (Err errors.OutOfMemory) before now plain some rests no = tt
+
+-- The texts. ----
+
+refused_chars : chars (codes "refused\t") ≡ codes "refused\t"
+unfolding chars
+refused_chars = refl
+
+pub not_utf8_chars : chars (codes "NotUtf8") ≡ codes "NotUtf8"
+unfolding chars
+not_utf8_chars = refl
+
+pub outside_chars : chars (codes "OutsideSheet") ≡ codes "OutsideSheet"
+unfolding chars
+outside_chars = refl
+
+pub line_told : (a b c d e f g new : List ℕ) (i j : ℕ) (name : List ℕ) → a ≡ [] → b ≡ a ++ chars (codes "refused\t") → c ≡ b ++ decimal i → d ≡ c ++ tab ∷ [] → e ≡ d ++ decimal j → f ≡ e ++ tab ∷ [] → g ≡ f ++ name → new ≡ g ++ line_feed ∷ []
+    → new ≡ refused_line i j name
+line_told a b c d e f g new i j name o p q r s t u v =
+    v
+    ∙ ap (λ x. x ++ line_feed ∷ []) (u ∙ ap (λ x. x ++ name) (t ∙ ap (λ x. x ++ tab ∷ []) (s ∙ ap (λ x. x ++ decimal j) (r ∙ ap (λ x. x ++ tab ∷ []) (q ∙ ap (λ x. x ++ decimal i) (p ∙ ap (λ x. x ++ chars (codes "refused\t")) o ∙ refused_chars))))))
+    ∙ simp append_assoc
+
+-- the markup of the first sheet
+read_first : (book : Book) (o : Option Sheet) (left : Book) (text : List ℕ)
+    → (let read : Stepped Book = found_or InvalidSheet (option_map (λ sheet. unless_refused [] book (text_field (sheet_markup book sheet))) o) in read ≡ Ok (left, text_field text))
+    → text ≡ option_map_or (sheet_markup book) o []
+read_first book None left text e = cc
+read_first book (Some sheet) left text e =
+    let same : text_field (sheet_markup book sheet) ≡ text_field text = cc in cc
+
+pub markup_told : (book left : Book) (text : List ℕ) → markup_step 0 book ≡ Ok (left, text_field text) → text ≡ first_markup book
+unfolding markup_step
+markup_told book left text e = read_first book (slice_get book.sheets 0) left text e
+
+-- A request in a known notation isn't refused in a book with a sheet. ----
+
+none_of : {X : Type 0} (a b : Bool) (x y : X) → IsNone (let o : Option X = cond a (Some x) (cond b (Some y) None) in o) → (a ≡ false) × (b ≡ false)
+none_of true b x y h = cc h
+none_of false true x y h = cc h
+none_of false false x y h = (refl, refl)
+
+has_first : (n : ℕ) → 0 < n → not (nat_lt 0 n) ≡ false
+has_first n h = ap not (lt-ltb 0 n h)
+
+pub known_request : (t : Target) (book : Book) → 0 < length book.sheets → IsNone (target_refusal t book.tables) → request_refusal (request_of t) book ≡ None
+known_request t book some known =
+    let both = none_of (is_none (locale_of book.tables t.locale)) (is_none (language_of book.tables t.language)) _ _ known in
+    rw (has_first (length book.sheets) some, both.0, both.1) refl
+
+-- Statuses. ----
+
+pub never_4 : {T : Type 0} (r : Result T ImportError) → status_of r ≡ 4 → ⊥
+never_4 (Ok counts) e = omega (arith, e)
+never_4 (Err (errors.Book why)) e = omega (arith, e)
+never_4 (Err errors.ReadFault) e = omega (arith, e)
+never_4 (Err errors.TooManyTurns) e = omega (arith, e)
+never_4 (Err (errors.NotUtf8 i j)) e = omega (arith, e)
+never_4 (Err (errors.OutsideSheet i j)) e = omega (arith, e)
+never_4 (Err (errors.Blocked i j why)) e = omega (arith, e)
+never_4 (Err errors.OutOfMemory) e = omega (arith, e)
+
+pub told_status : (r s : ℕ) → (r ≡ s) ⊎ (r ≡ 4) → (r ≡ 0) ⊎ (r ≡ 8) → r ≡ s
+told_status r s (inl is) at = is
+told_status r s (inr is) (inl at) = absurd (omega arith)
+told_status r s (inr is) (inr at) = absurd (omega arith)
+
+-- The text of an answer. ----
+
+module _ {A E F : Type 0} (book : Book) (given : Result (String Global) E) (made : Result (String Global) F) (same : IfOk made (λ m. given ≡ Ok m)) where
+  told_by : (P : List ℕ → Type 0) → IfOk given (λ t. P (chars (string_bytes t))) → IfOk made (λ t. P (chars (string_bytes t)))
+  told_by P h = by made same
+    where
+      by : (m : Result (String Global) F) → IfOk m (λ x. given ≡ Ok x) → IfOk m (λ t. P (chars (string_bytes t)))
+      by (Ok x) is = rw is at h
+      by (Err e) is = tt
+
+  pub table_told : (answer : Result A ImportError) (counts : A) → answer ≡ Ok counts → IfOk given (λ t. chars (string_bytes t) ≡ first_markup book ++ line_feed ∷ []) → IfOk made (λ t. SaysOf answer book (status_of answer) (chars (string_bytes t)))
+  table_told answer counts is h = subst (λ (a : Result A ImportError). IfOk made (λ t. SaysOf a book (status_of a) (chars (string_bytes t)))) (sym is) (told_by (λ text. (let zero : ℕ = 0 in zero ≡ 0) × (text ≡ first_markup book ++ line_feed ∷ [])) ?)

@@ -1,5 +1,5 @@
 //! What the program does with its words.
-ghost use Rattle.std.specs.Prelude.{◌≡◌, ◌≢◌, ◌⊎◌, ◌↔◌, ◌+◌, ◌<◌, ◌≤◌, ◌^◌, [], ◌∷◌, ◌++◌, None, Some, true, Err, chars, length, string_bytes, IfErr, IfOk, IfSome, IsNone, IsSome, IsSomeAnd, is_some, List, OnOk, encode_utf8_all, ℕ};
+ghost use Rattle.std.specs.Prelude.{◌≡◌, ◌≢◌, ◌⊎◌, ◌↔◌, ◌+◌, ◌<◌, ◌≤◌, ◌^◌, [], ◌∷◌, ◌++◌, None, Some, true, Err, Ok, chars, length, string_bytes, IfErr, IfOk, IfSome, IsNone, IsSome, IsSomeAnd, is_some, List, OnOk, encode_utf8_all, ℕ};
 ghost use Rattle.std.specs.Fmt.{decimal};
 ghost use Rattle.ic_laws.specs.Character.{line_feed};
 ghost use Rattle.ic_lines.specs.Bytes.{AppendsFront, HasFault, IfTold};
@@ -234,22 +234,33 @@ fn told(
     ensures none { IfErr result (λ status. (status ≡ 6)
         ⊎ ((status ≡ status_of answer.now) × ((status ≡ 3) ⊎ (status ≡ 5)))) }
 {
-    let text = match answer {
-        Ok(_) => table(model),
+    match answer {
+        Ok(_) => or_no_memory(table(model)),
         Err(
             ImportError::NotUtf8 {
                 at_record,
                 at_field,
             },
-        ) => refused(alloc, *at_record, *at_field, "NotUtf8"),
+        ) => or_no_memory(refused(alloc, *at_record, *at_field, "NotUtf8")),
         Err(
             ImportError::OutsideSheet {
                 at_record,
                 at_field,
             },
-        ) => refused(alloc, *at_record, *at_field, "OutsideSheet"),
-        Err(_) => return Err(status_of(answer)),
-    };
+        ) => or_no_memory(refused(alloc, *at_record, *at_field, "OutsideSheet")),
+        Err(ImportError::ReadFault) => Err(3),
+        Err(ImportError::TooManyTurns) => Err(5),
+        Err(ImportError::OutOfMemory) => Err(6),
+        Err(ImportError::Book(_)) => unreachable!(),
+        Err(ImportError::Blocked { .. }) => unreachable!(),
+    }
+}
+
+/// A text; or the status where memory ran out.
+fn or_no_memory(text: Result<String, OutOfMemory>) -> Result<String, u8>
+    ensures text { IfOk result (λ made. text ≡ Ok made) }
+    ensures none { IfErr result (λ status. status ≡ 6) }
+{
     match text {
         Ok(text) => Ok(text),
         Err(OutOfMemory) => Err(6),
