@@ -6,7 +6,7 @@ ghost use Rattle.ic_book.specs.Whole.{whole_of};
 ghost use Rattle.ic_run.specs.Desk.{start_refusal, texts};
 ghost use Rattle.ic_run.specs.Make.{made_setting};
 ghost use Rattle.ic_audit.specs.Asked.{OfSheet, question, question_of, sites_asked};
-ghost use Rattle.ic_audit.specs.Listed.{AppendsSites, AppendsSitesFront, FindsNothing, TellsSites, TellsSitesFront, told_sites};
+ghost use Rattle.ic_audit.specs.Listed.{AppendsSites, AppendsSitesFront, FindsNothing, FindsSome, TellsSites, TellsSitesFront, told_sites};
 
 use crate::AuditError;
 use crate::asked::{Asked, asked_for};
@@ -51,6 +51,11 @@ pub fn audit_desk<S: Source, K: Sink>(
         (AppendsSitesFront question tables.now bytes))) }
     ensures none { result ≡ 8 → IfSome (question_of (texts words.now)) (λ question.
         IfTold (S.left source.old) (S.left source.new) (FindsNothing question tables.now)) }
+
+    // Whatever the sink tells, 0 and 4 come only where there is such a sheet or such a definition in that book.
+    ensures found { (result ≡ 0) ⊎ (result ≡ 4)
+        → IfSome (question_of (texts words.now)) (λ question.
+        IfTold (S.left source.old) (S.left source.new) (FindsSome question tables.now)) }
     ensures nothing { (result ≡ 3) ⊎ ((result ≡ 5) ⊎ ((result ≡ 6) ⊎ (result ≡ 8)))
         → sink.new ≡ sink.old }
 
@@ -103,6 +108,8 @@ fn answered<S: Source, K: Sink>(
         (AppendsSitesFront (question asked.now) tables.now bytes)) }
     ensures none { result ≡ 8 → IfTold (S.left source.old) (S.left source.new)
         (FindsNothing (question asked.now) tables.now) }
+    ensures found { (result ≡ 0) ⊎ (result ≡ 4) → IfTold (S.left source.old) (S.left source.new)
+        (FindsSome (question asked.now) tables.now) }
     ensures nothing { (result ≡ 3) ⊎ ((result ≡ 5) ⊎ ((result ≡ 6) ⊎ (result ≡ 8)))
         → sink.new ≡ sink.old }
     ensures end { (result ≡ 0) ⊎ (result ≡ 8) → S.ended source.new ≡ true }
@@ -142,6 +149,8 @@ fn tell<K: Sink>(alloc: Global, model: &Model<'_>, asked: &Asked<'_>, sink: &mut
         (TellsSitesFront (sites_asked (question asked.now) (whole_of model.now.book))) }
     ensures none { result ≡ 8
         → sites_asked (question asked.now) (whole_of model.now.book) ≡ None }
+    ensures found { (result ≡ 0) ⊎ (result ≡ 4)
+        → IsSome (sites_asked (question asked.now) (whole_of model.now.book)) }
     ensures nothing { (result ≡ 6) ⊎ (result ≡ 8) → sink.new ≡ sink.old }
     ensures write_fault { result ≡ 4 → HasFault (K.faults sink.old) (K.faults sink.new) }
     ensures which { (result ≡ 0) ⊎ ((result ≡ 4) ⊎ ((result ≡ 6) ⊎ (result ≡ 8))) }

@@ -61,7 +61,21 @@ pub fn reply_in(
         (λ reply. DoesLine line.now model.old model.new (string_bytes reply)) }
     ensures err { OnErr result (model.new.book ≡ model.old.book) }
 {
-    let command = command_in(alloc, english_of(model), line.text().as_str())?;
+    reply_to_text(alloc, model, line.text().as_str(), last)
+}
+
+/// The same for a line by its characters. One with a line feed in it is answered as any other.
+pub fn reply_to_text(
+    alloc: Global,
+    model: &mut Model<'_>,
+    line: &str,
+    last: String,
+) -> Result<String, OutOfMemory>
+    ensures whole { IfOk result
+        (λ reply. DoesLine (chars line.now) model.old model.new (string_bytes reply)) }
+    ensures err { OnErr result (model.new.book ≡ model.old.book) }
+{
+    let command = command_in(alloc, english_of(model), line)?;
     let reply = emptied(last)?;
     match command {
         Some(command) => answer(alloc, model, command, reply),

@@ -11,7 +11,8 @@ use Rattle.ic_book.specs.Book.{Book, core_of, first_sheet_name_in, new_book, not
 use Rattle.ic_run.specs.Desk.{Setting, setting_of, run_status, texts}
 use Rattle.ic_run.specs.Make.{made_setting}
 use Rattle.ic_run.specs.Core.{AreCore, IsPlainBook, identity_machine, whole_machine}
-use Rattle.ic_run.specs.Run.{HasPartlyReplied, HasReplied, Leaves, LeavesReplies, LeavesRun, LeavesWhole, RunsAnswered, RunsPartly, TakesAll}
+use Rattle.ic_run.specs.Run.{HasPartlyReplied, HasReplied, LeavesReplies, LeavesRun, LeavesWhole, RunsAnswered, RunsPartly, TakesAll}
+use Rattle.ic_run.proofs.RunLemmas.{leaves_weaker}
 use Rattle.ic_laws.specs.CoreBook.{CellPlace, CoreBook}
 use Rattle.ic_laws.specs.Lines.{texts_of}
 use Rattle.ic_cells.specs.declared.cell.Cell.{Cell}
@@ -130,13 +131,6 @@ at_error_status (Err run.OutOfMemory) run.ReadFault P same h = absurd (omega (ar
 at_error_status (Err run.OutOfMemory) run.WriteFault P same h = absurd (omega (arith, same))
 at_error_status (Err run.OutOfMemory) run.TooManyTurns P same h = absurd (omega (arith, same))
 at_error_status (Err run.OutOfMemory) run.OutOfMemory P same h = h
-
--- what is so of what an error leaves
-leaves_weaker : (P Q R S : ℕ → Type 0) (e : RunError) (bytes left : List ℕ) → ((n : ℕ) → P n → R n) → ((n : ℕ) → Q n → S n) → Leaves P Q e bytes left → Leaves R S e bytes left
-leaves_weaker P Q R S run.ReadFault bytes left p q h = (h.0, h.1, p h.0 h.2)
-leaves_weaker P Q R S run.TooManyTurns bytes left p q h = (h.0, h.1, p h.0 h.2)
-leaves_weaker P Q R S run.OutOfMemory bytes left p q h = (h.0, h.1, p h.0 h.2)
-leaves_weaker P Q R S run.WriteFault bytes left p q h = (h.0, h.1, q h.0 h.2)
 
 -- the replies alone, to core lines by the identity machine
 leaves_core : (e : RunError) (old new : Book) (bytes left : List ℕ) (before now : Option (List ℕ)) → IsPlainBook (whole_of old) → LeavesRun e old new bytes left before now

@@ -55,11 +55,6 @@ replies_same (line ∷ all) old new did plain are =
 pub line_left : (line : List ℕ) (old new : ModelState) (reply : List ℕ) → DoesLine line old new reply → LeavesLine line old new
 line_left line old new reply does = record { book = does.book; stays = does.stays; valid = does.valid }
 
--- over a source that tells its bytes
-pub is_after_all : (first b : Option (List ℕ)) (old new : ModelState) → IfTold first b (λ bytes _. LinesDo (texts_of bytes) old new) → IfTold first b (IsAfterAll old.book new.book)
-is_after_all first b old new did =
-    IfTold-weaker first b (λ bytes _. LinesDo (texts_of bytes) old new) (IsAfterAll old.book new.book) (λ bytes left. lines_leave (texts_of bytes) old new) did
-
 -- the name of a new workbook
 name_chars : chars (codes "workbook") ≡ codes "workbook"
 unfolding chars

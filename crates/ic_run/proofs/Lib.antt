@@ -1,4 +1,6 @@
 pub mod AcceptedLemmas
+pub mod AnsweredRuns
+pub mod AnsweringLemmas
 pub mod CoreLemmas
 pub mod CoreLineLemmas
 pub mod CoreSteps
@@ -8,7 +10,7 @@ pub mod LeftLemmas
 pub mod MadeLemmas
 pub mod MakeLemmas
 pub mod PlainLemmas
-pub mod ProgressLemmas
+pub mod RefinedRuns
 pub mod RetoldLemmas
 pub mod RunLemmas
 pub mod TablesStay

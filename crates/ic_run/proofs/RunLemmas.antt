@@ -1,17 +1,12 @@
--- Replies after some of the lines, the next of them, and the causes of errors.
-use Rattle.std.proofs.Common.{◌≡◌, ℕ, ◌+◌, ◌<◌, List, [], ◌∷◌, ◌++◌, length, take, drop, ap, sym, ◌∙◌, arith, append_assoc, append-nil, length-drop, Result, Ok, Err, Option, Some, IsSome, IfErr, IsErrAnd, subst, rules}
+-- The next of some lines, and what the result of a run tells.
+use Rattle.std.proofs.Common.{◌≡◌, ℕ, ◌+◌, ◌<◌, List, [], ◌∷◌, ◌++◌, length, take, drop, ap, sym, ◌∙◌, arith, append_assoc, append-nil, length-drop, Result, Ok, Err, Option, Some, IsSome, IfOk, IfErr, IsErrAnd, OnOk, subst, rules}
 use Rattle.std.proofs.Math.Seq.{take-add}
 use Rattle.std.proofs.lemmas.List.{drop-drop}
-use Rattle.ic_machine.specs.Run.{Machine, after, replies}
+use Rattle.ic_lines.specs.Bytes.{IfTold}
 use Rattle.ic_lines.specs.declared.error.RunError.{RunError}
-
--- the replies to lines and one more, by any machine
-module _ {S : Type 0} (machine : Machine S) where
-  pub replies-append : (state : S) (lines : List (List ℕ)) (line : List ℕ) → replies machine state (lines ++ line ∷ []) ≡ replies machine state lines ++ (machine (after machine state lines) line).1
-  replies-append state [] line = append-nil (machine state line).1
-  replies-append state (first ∷ lines) line =
-      ap (λ v. (machine state first).1 ++ v) (replies-append (machine state first).0 lines line)
-      ∙ sym (append_assoc (machine state first).1 (replies machine (machine state first).0 lines) (machine (after machine (machine state first).0 lines) line).1)
+use Rattle.ic_lines.specs.declared.error.RunError.TheVariants as errors
+use Rattle.ic_lines.proofs.ToldLemmas.{IfTold-weaker}
+use Rattle.ic_run.specs.Run.{Leaves}
 
 -- the next of some lines
 module _ {X : Type 0} (lines : List X) (count : ℕ) (line : X) (rest : List X) (next : drop count lines ≡ line ∷ rest) where
@@ -30,3 +25,23 @@ IfErr-given (Err x) e P is p = subst P (sym is) p
 
 pub IsSome-is : {T : Type 0} (o : Option T) (x : T) → o ≡ Some x → IsSome o
 IsSome-is o x e = subst IsSome (sym e) (search rules)
+
+-- what is so of what an error leaves
+pub leaves_weaker : (P Q R S : ℕ → Type 0) (e : RunError) (bytes left : List ℕ) → ((n : ℕ) → P n → R n) → ((n : ℕ) → Q n → S n) → Leaves P Q e bytes left → Leaves R S e bytes left
+leaves_weaker P Q R S errors.ReadFault bytes left p q h = (h.0, h.1, p h.0 h.2)
+leaves_weaker P Q R S errors.TooManyTurns bytes left p q h = (h.0, h.1, p h.0 h.2)
+leaves_weaker P Q R S errors.OutOfMemory bytes left p q h = (h.0, h.1, p h.0 h.2)
+leaves_weaker P Q R S errors.WriteFault bytes left p q h = (h.0, h.1, q h.0 h.2)
+
+-- what an Ok tells of the bytes, and what an error does
+pub told_of_ok : (source left : Option (List ℕ)) (r : Result ℕ RunError) (P : ℕ → List ℕ → List ℕ → Type 0) (Q : List ℕ → List ℕ → Type 0) → ((n : ℕ) (x y : List ℕ) → P n x y → Q x y) → IfOk r (λ n. IfTold source left (P n)) → OnOk r (IfTold source left Q)
+told_of_ok source left (Ok n) P Q f h = IfTold-weaker source left (P n) Q (f n) h
+told_of_ok source left (Err e) P Q f h = tt
+
+pub told_of_count : (source left : Option (List ℕ)) (r : Result ℕ RunError) (P Q : ℕ → List ℕ → List ℕ → Type 0) → ((n : ℕ) (x y : List ℕ) → P n x y → Q n x y) → IfOk r (λ n. IfTold source left (P n)) → IfOk r (λ n. IfTold source left (Q n))
+told_of_count source left (Ok n) P Q f h = IfTold-weaker source left (P n) (Q n) (f n) h
+told_of_count source left (Err e) P Q f h = tt
+
+pub told_of_error : (source left : Option (List ℕ)) (r : Result ℕ RunError) (P Q : RunError → List ℕ → List ℕ → Type 0) → ((e : RunError) (x y : List ℕ) → P e x y → Q e x y) → IfErr r (λ e. IfTold source left (P e)) → IfErr r (λ e. IfTold source left (Q e))
+told_of_error source left (Ok n) P Q f h = tt
+told_of_error source left (Err e) P Q f h = IfTold-weaker source left (P e) (Q e) (f e) h

@@ -1,3 +1,4 @@
+pub mod Answering
 pub mod Core
 pub mod Counts
 pub mod Desk

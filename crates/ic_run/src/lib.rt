@@ -5,9 +5,10 @@
 //! whole machine. `desk` gives that for the program's words; for the words `make SEED COUNT` it answers lines that are made
 //! from the seed, and writes what the whole machine makes of them; for `translate LOCALE LANGUAGE` it writes what lines
 //! become in another notation, which is `translate`'s answer. `book_after` reads all lines and answers them with no replies
-//! kept, for programs that look at the book.
+//! kept, for programs that look at the book. `answer_each` is the loop of `run`, for whatever answers a line.
 #![tactic(auto)]
 
+mod answering;
 mod counts;
 mod lines;
 mod made;
@@ -20,9 +21,11 @@ mod start;
 mod translating;
 mod translation;
 
+pub use answering::{Answers, answer_each};
 pub use ic_book::Why;
 pub use lines::{law_core_lines_are_done, run};
 pub use make::written;
 pub use prepared::book_after;
-pub use program::desk;
+pub use program::{desk, status_of};
+pub use start::{Start, english_book, first_book, start_named};
 pub use translating::{TranslateError, translate};

@@ -1,17 +1,17 @@
-ghost use Rattle.std.specs.Prelude.{◌≡◌, ◌⊎◌, ◌+◌, ◌++◌, ◌<◌, ◌≤◌, ◌^◌, true, Err, length, IfOk, IfErr, IsSomeAnd, OnOk};
+ghost use Rattle.std.specs.Prelude.{◌≡◌, ◌+◌, ◌<◌, ◌≤◌, ◌^◌, true, Err, length, IfOk, IfErr, IsSomeAnd, OnOk};
 ghost use Rattle.ic_laws.specs.Lines.{texts_of};
-ghost use Rattle.ic_lines.specs.Bytes.{AppendsFront, HasFault, IfTold};
+ghost use Rattle.ic_lines.specs.Bytes.{HasFault, IfTold};
 ghost use Rattle.ic_book.specs.Book.{core_of, notations_in};
 ghost use Rattle.ic_book.specs.Whole.{whole_of};
-ghost use Rattle.ic_commands.specs.Answered.{LeavesLine};
 ghost use Rattle.ic_run.specs.Core.{AreCore, CoreLinesAreDone, IsPlainBook, identity_machine, whole_machine};
 ghost use Rattle.ic_run.specs.Run.{AppendsReplies, HasCause, IsAfterAll, LeavesRun, LinesDo, TakesAll};
 
+use crate::answering::{Answers, answer_each};
 use ic_book::Model;
 use ic_commands::reply_in;
-use ic_lines::{Line, LineReader, RunError, Sink, Source, write_all};
+use ic_laws::OutOfMemory;
+use ic_lines::{Line, RunError, Sink, Source};
 use std::alloc::Global;
-use std::mem;
 
 /// Answers the lines of a source, one reply a line, and answers their number. It answers every whole line that it
 /// has before it reads again. A core line is one that is no command or one that the identity machine has.
@@ -74,46 +74,37 @@ pub fn run<S: Source, K: Sink>(
         → ¬ HasFault (K.faults sink.old) (K.faults sink.new)
         → IfErr result (λ e. e ≡ RunError.OutOfMemory) }
 {
-    let mut reader = LineReader::new(alloc);
-    let mut room = String::new(alloc);
-    let mut count = 0;
-    'lines: while let Some(line) = reader.next_line(source)? {
-        answer_to(alloc, model, &line, &mut room, sink)?;
-        count += 1;
+    answer_each(alloc, &mut Commands, model, source, sink)
+}
+
+/// Answers each line as a command line.
+#[derive(Drop)]
+struct Commands;
+
+impl Answers for Commands {
+    ghost use Rattle.ic_book.specs.Book.{ModelState};
+    ghost use Rattle.ic_commands.specs.Answered.{DoesLine};
+
+    ghost is_ready = { λ _ model. Unit {0} };
+
+    ghost does = { λ line old new told. DoesLine line old.1 new.1 told };
+
+    ghost stays = { λ old new. new.1.book ≡ old.1.book };
+
+    fn reply_in(
+        &mut self,
+        alloc: Global,
+        model: &mut Model<'_>,
+        line: &Line,
+        last: String,
+    ) -> Result<String, OutOfMemory> {
+        reply_in(alloc, model, line, last)
     }
-    Ok(count)
 }
 
-/// Answers one line into the sink, in one write. The reply stays in `room`, whose memory the next one has.
-fn answer_to<K: Sink>(
-    alloc: Global,
-    model: &mut Model<'_>,
-    line: &Line,
-    room: &mut String,
-    sink: &mut K,
-) -> Result<(), RunError>
-    ensures reply { OnOk result (IfTold (K.written sink.old) (K.written sink.new)
-        (λ before now. now ≡ before ++ (whole_machine (whole_of model.old.book) line.now).1)) }
-    ensures does { OnOk result (LeavesLine line.now model.old model.new) }
-    ensures which { IfErr result (λ e. (e ≡ RunError.OutOfMemory) ⊎ (e ≡ RunError.WriteFault)) }
-    ensures no_memory { result ≡ Err RunError.OutOfMemory → (model.new.book ≡ model.old.book)
-        × (sink.new ≡ sink.old) }
-    ensures write_fault { result ≡ Err RunError.WriteFault → HasFault (K.faults sink.old)
-        (K.faults sink.new)
-        × LeavesLine line.now model.old model.new
-        × IfTold (K.written sink.old) (K.written sink.new)
-        (AppendsFront (whole_machine (whole_of model.old.book) line.now).1) }
-    ensures counted { K.faults sink.old ≤ K.faults sink.new }
-    ensures quiet { OnOk result (K.faults sink.new ≡ K.faults sink.old) }
-{
-    let reply = reply_in(alloc, model, line, mem::replace(room, String::new(alloc)))?;
-    *room = reply;
-    write_all(sink, room.as_bytes())
-}
-
-/// A core line that left of the whole book what the whole machine leaves left of its core what the identity machine leaves, and
-/// has its reply, where no cells are merged and no array has several cells, which the identity machine knows nothing of; and
-/// that stays so.
+/// A core line that left of the whole book what the whole machine leaves left of its core what the identity machine
+/// leaves, and has its reply, where no cells are merged and no array has several cells, which the identity machine knows
+/// nothing of; and that stays so.
 pub fn law_core_lines_are_done()
     ensures { CoreLinesAreDone }
 {}

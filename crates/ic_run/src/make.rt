@@ -10,7 +10,7 @@ ghost use Rattle.ic_run.specs.Make.{AppendsSummary, AppendsSummaryFront, made_li
 
 use crate::counts::summary;
 use crate::made::Generator;
-use crate::start::{english_start, first_book};
+use crate::start::english_book;
 use ic_book::Model;
 use ic_commands::answer_line;
 use ic_laws::OutOfMemory;
@@ -88,7 +88,7 @@ pub fn make<K: Sink>(
     ensures completes { ¬ HasFault (K.faults sink.old) (K.faults sink.new)
         → IsNone (start_refusal made_setting tables.now) → (result ≡ 0) ⊎ (result ≡ 6) }
 {
-    match first_book(alloc, &english_start(), tables, moment) {
+    match english_book(alloc, tables, moment) {
         Ok(mut model) => match told(alloc, &mut model, making) {
             Ok(text) => written(sink, text.as_bytes(), 0),
             Err(OutOfMemory) => 6,

@@ -234,8 +234,8 @@ fn run_from<S: Source, K: Sink>(
     }
 }
 
-/// The status for what `run` answered.
-fn status_of(answer: Result<u64, RunError>) -> u8
+/// The status for what a run answered.
+pub fn status_of(answer: Result<u64, RunError>) -> u8
     ensures { result ≡ run_status answer }
 {
     match answer {

@@ -39,7 +39,7 @@ pub fn start_named(words: &[String]) -> Option<Start<'_>>
 }
 
 /// en, en and UTC.
-pub fn english_start() -> Start<'static>
+fn english_start() -> Start<'static>
     ensures { setting result ≡ made_setting }
 {
     Start {

@@ -10,7 +10,7 @@ ghost use Rattle.ic_run.specs.Start.{target};
 ghost use Rattle.ic_run.specs.Translate.{AppendsTold, AppendsToldFront, AppendsTranslated, AppendsTranslatedFront, IsDue, due_status, ended_line, switches, target_of, target_refusal, told_bytes, told_cannot, why_name};
 
 use crate::make::written;
-use crate::start::{english_start, first_book};
+use crate::start::english_book;
 use crate::translating::{TranslateError, translate};
 use ic_book::{Model, Why};
 use ic_laws::OutOfMemory;
@@ -89,7 +89,7 @@ pub fn translation<S: Source, K: Sink>(
     if is_unknown(tables, wanted) {
         return 2;
     }
-    match first_book(alloc, &english_start(), tables, moment) {
+    match english_book(alloc, tables, moment) {
         Ok(mut model) => from_book(alloc, &mut model, wanted, source, sink),
         Err(status) => status,
     }

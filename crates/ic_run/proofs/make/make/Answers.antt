@@ -2,7 +2,6 @@ use Rattle.std.proofs.Common.{ℕ, List, ◌≡◌, ◌++◌, ap, subst, ◌∙�
 use Rattle.ic_lines.proofs.ToldLemmas.{IfTold-weaker}
 use Rattle.ic_lines.specs.Bytes.{AppendsFront}
 use Rattle.ic_book.specs.Whole.{whole_of}
-use Rattle.ic_run.specs.Desk.{Setting, start_book}
 use Rattle.ic_run.specs.Make.{AppendsSummary, AppendsSummaryFront, made_start, summary_of}
 use Rattle.ic_run.proofs.make.make.Goals as goal
 
@@ -14,7 +13,7 @@ returns-in-Ok-told-clause-made g c at_0 =
     let created = c.in-Ok.model.book.metadata.created in
     let text = c.as_bytes.result.now in
     let tells : text ≡ summary_of making (made_start created tables) =
-    c.as_bytes.ensures.value ∙ c.in-Ok-told.ensures ∙ ap (λ b. summary_of making (whole_of b)) (c.in-Ok.ensures.start ∙ ap (λ (s : Setting). start_book s created tables) c.english_start.ensures) in
+    c.as_bytes.ensures.value ∙ c.in-Ok-told.ensures ∙ ap (λ b. summary_of making (whole_of b)) c.in-Ok.ensures.start in
     IfTold-weaker (written c.args.sink.now) (written c.written.new.sink) (λ before now. now ≡ before ++ text) (AppendsSummary making tables)
     (λ before now q. (created, q ∙ ap (λ (t : List ℕ). before ++ t) tells)) (c.written.ensures.ok at_0)
 
@@ -26,6 +25,6 @@ returns-in-Ok-told-clause-front g c at_4 =
     let created = c.in-Ok.model.book.metadata.created in
     let text = c.as_bytes.result.now in
     let tells : text ≡ summary_of making (made_start created tables) =
-    c.as_bytes.ensures.value ∙ c.in-Ok-told.ensures ∙ ap (λ b. summary_of making (whole_of b)) (c.in-Ok.ensures.start ∙ ap (λ (s : Setting). start_book s created tables) c.english_start.ensures) in
+    c.as_bytes.ensures.value ∙ c.in-Ok-told.ensures ∙ ap (λ b. summary_of making (whole_of b)) c.in-Ok.ensures.start in
     IfTold-weaker (written c.args.sink.now) (written c.written.new.sink) (AppendsFront text) (AppendsSummaryFront making tables)
     (λ before now q. (created, subst (λ (t : List ℕ). AppendsFront t before now) tells q)) (c.written.ensures.front at_4)

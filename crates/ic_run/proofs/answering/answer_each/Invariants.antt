@@ -1,16 +1,19 @@
 use Rattle.std.proofs.Common.{◌≡◌, ◌+◌, ◌*◌, ◌≤◌, false, length}
 use Rattle.ic_lines.specs.Bytes.{IfTold}
 use Rattle.ic_lines.specs.Reading.{SeesEnd, budget}
-use Rattle.ic_run.proofs.ProgressLemmas.{Progress}
-use Rattle.ic_run.proofs.lines.run.Given as goal
+use Rattle.ic_run.proofs.AnsweringLemmas.{Came, Progress}
+use Rattle.ic_run.proofs.answering.answer_each.Given as goal
 
 -- some of the first lines are answered, and the others are still to be given; no fault was counted
 abbrev pub invariant-lines : goal.invariant-lines
 invariant-lines g l =
     let source = g.S.Source in
     let sink = g.K.Sink in
+    let does = g.A.Answers.does in
     record {
-      done : IfTold (source.left l.fn.source) (source.left l.source) (Progress l.fn.model l.model l.count l.reader (sink.written l.fn.sink) (sink.written l.sink));
+      ready : g.A.Answers.is_ready l.answerer l.model;
+      came : Came does (l.fn.answerer, l.fn.model) (l.answerer, l.model);
+      done : IfTold (source.left l.fn.source) (source.left l.source) (Progress does (l.fn.answerer, l.fn.model) (l.answerer, l.model) l.count l.reader (sink.written l.fn.sink) (sink.written l.sink));
       turns : IfTold (source.left l.fn.source) (source.left l.source) (λ bytes left. l.reader.turns + length left ≤ length bytes);
       few : l.count + budget l.reader ≤ 4096 * 4294967296;
       shown : SeesEnd false l.reader.ended (source.ended l.fn.source) (source.ended l.source);
