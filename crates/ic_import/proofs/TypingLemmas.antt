@@ -1,15 +1,13 @@
 -- Fields that are typed one after another: what the others come to after the first, and what an error at one tells of all.
-use Rattle.std.proofs.Common.{◌≡◌, ◌+◌, ◌<◌, ◌≤◌, ℕ, suc, List, [], ◌∷◌, ◌++◌, Bool, true, false, cond, not, length, drop, Option, Some, None, Result, Ok, Err, refl, sym, ap, subst, ◌∙◌, arith, ints, inl, inr, ◌⊎◌, ⊥, pos, ◌+ℤ◌, ◌-ℤ◌, chars}
+use Rattle.std.proofs.Common.{◌≡◌, ◌+◌, ◌≤◌, ℕ, suc, List, [], ◌∷◌, ◌++◌, Bool, true, false, cond, not, length, Option, Some, None, Result, Ok, Err, IfErr, IsErr, IsErrAnd, refl, sym, ap, subst, ◌∙◌, arith, inl, inr, ◌⊎◌, pos, ◌+ℤ◌, ◌-ℤ◌, ◌≤ℤ◌, ◌-◌, ◌*◌, ℤ, chars, of_z, option_map, to_z, w32}
 use Rattle.std.proofs.lemmas.Bool.{and_parts, not-false}
-use Rattle.std.proofs.lemmas.List.{drop_all, drop_more}
+use Rattle.std.proofs.lemmas.Int.{ints}
 use Rattle.std.proofs.lemmas.List.Folds.{find-append}
 use Rattle.std.proofs.lemmas.Str.{IsUtf8-from_is_utf8}
 use Rattle.std.specs.List.{find, slice_get}
-use Rattle.std.specs.Nat.{nat_abs}
+use Rattle.std.specs.Prelude.{nat_lt}
 use Rattle.std.specs.Option.{option_or}
 use Rattle.std.specs.Str.{IsUtf8, is_utf8}
-use Rattle.csv.proofs.RecordFacts.{field-get, field-there}
-use Rattle.csv.specs.Records.{field_at}
 use Rattle.ic_laws.specs.CoreBook.{CellPlace}
 use Rattle.ic_laws.specs.Position.{is_column, is_row}
 use Rattle.ic_laws.proofs.core.Lists.{length_updated}
@@ -17,13 +15,11 @@ use Rattle.ic_refs.proofs.ColumnLemmas.{number_of_column, number_of_row}
 use Rattle.ic_grid.specs.Arrays.{is_fixed_at}
 use Rattle.ic_grid.specs.Merges.{is_covered}
 use Rattle.ic_machine.specs.Book.{Book, Sheet, Stepped, found_or, lacks_sheet, unless, with_sheet}
-use Rattle.ic_machine.specs.Command.{OnWriting}
 use Rattle.ic_machine.specs.Content.{held}
 use Rattle.ic_machine.specs.InForce.{typed_in}
 use Rattle.ic_machine.specs.Refusal.{ArrayPart, InvalidColumn, InvalidRow, InvalidSheet, MergedPart, Refusal, first_refusal}
 use Rattle.ic_machine.specs.Reply.{Field as Told}
 use Rattle.ic_machine.specs.subjects.Writing.{SetUserInput, input_step, typed_written, with_written, writing_step}
-use Rattle.ic_machine.proofs.NotationStays.{KeepsNotation, notation_stays}
 use Rattle.ic_book.proofs.ExtendLemmas.{none_past}
 use Rattle.ic_book.specs.Book.{ModelState}
 use Rattle.ic_book.specs.Does.{Refused, WantedIn}
@@ -40,17 +36,6 @@ use Rattle.ic_import.specs.declared.places.FieldNumber.{FieldNumber}
 
 -- The fields that are left. ----
 
--- the field at a place is the first of those that are left there; where there is none, none is left
-pub next_field : (xs : List (List ℕ)) (i : ℕ) (x : List ℕ) → i < length xs → field_at xs i ≡ Some x → drop i xs ≡ x ∷ drop (i + 1) xs
-next_field xs i x less e = drop_more xs i [] less ∙ ap (λ (y : List ℕ). y ∷ drop (i + 1) xs) (field-get xs i x e)
-
-pub no_field_left : (xs : List (List ℕ)) (i : ℕ) → field_at xs i ≡ None → drop i xs ≡ []
-no_field_left xs i e = drop_all i xs (past (cases_lt i (length xs)))
-  where
-    past : (i < length xs) ⊎ (length xs ≤ i) → length xs ≤ i
-    past (inl less) = absurd (field-there xs i less e)
-    past (inr h) = h
-
 neither : {A : Type 0} (a b : Option A) → option_or a b ≡ None → (a ≡ None) × (b ≡ None)
 neither None b e = (refl, e)
 neither (Some x) b e = cc
@@ -61,6 +46,11 @@ none_in p xs ys e = neither (find p xs) (find p ys) (sym (find-append p xs ys) �
 passes_not : (b : Bool) (x : Field) → cond b (Some x) None ≡ None → b ≡ false
 passes_not true x e = cc
 passes_not false x e = refl
+
+-- how many fields there may be in so many records
+pub record IsFew (records count : ℕ) : Type 0 where
+  pub each : count ≤ 16384 * records
+  pub all : count ≤ 17179869184
 
 module _ (at : CellPlace) where
   -- some of the fields that can be typed can be, and the others
@@ -100,8 +90,30 @@ module _ (at : CellPlace) where
       let more = few_from start at_record (n + 1) xs (omega arith) (typable_parts (f ∷ []) (fields_in at_record (n + 1) xs) h).1 in
       omega arith
 
-  pub few_fields : is_column at.1 ≡ true → (at_record : ℕ) (xs : List (List ℕ)) → Typable at (fields_in at_record 1 xs) → length xs ≤ 16384
+  few_fields : is_column at.1 ≡ true → (at_record : ℕ) (xs : List (List ℕ)) → Typable at (fields_in at_record 1 xs) → length xs ≤ 16384
   few_fields start at_record xs h = let all = few_from start at_record 1 xs (omega arith) h in omega arith
+
+  rows_or_none : is_row at.0 ≡ true → (at_record : ℕ) (xs : List (List ℕ)) → Typable at (fields_in at_record 1 xs) → (length xs ≡ 0) ⊎ (at_record ≤ 1048576)
+  rows_or_none start at_record [] h = inl refl
+  rows_or_none start at_record (x ∷ xs) h =
+      let f : Field = record { at_record = at_record; at_field = 1; bytes = x } in
+      inr (few_rows start f (typable_first f (fields_in at_record 2 xs) h).1)
+
+  pub few_more : is_row at.0 ≡ true → is_column at.1 ≡ true → (records count : ℕ) (xs : List (List ℕ)) → IsFew records count → Typable at (fields_in (records + 1) 1 xs)
+      → IsFew (records + 1) (count + length xs) × (length xs ≤ 16384)
+  few_more row column records count xs few h = by_rows (rows_or_none row (records + 1) xs h)
+    where
+      most : length xs ≤ 16384
+      most = few_fields column (records + 1) xs h
+
+      by_rows : (length xs ≡ 0) ⊎ (records + 1 ≤ 1048576) → IsFew (records + 1) (count + length xs) × (length xs ≤ 16384)
+      by_rows (inl none) = (record { each = omega (arith, few.each); all = omega (arith, few.all) }, most)
+      by_rows (inr rows) = (record { each = omega (arith, few.each, most); all = omega (arith, few.each, most, rows) }, most)
+
+-- a record has as many fields as there are numbered
+pub count_in : (at_record n : ℕ) (xs : List (List ℕ)) → length (fields_in at_record n xs) ≡ length xs
+count_in at_record n [] = refl
+count_in at_record n (x ∷ xs) = ap (λ k. suc k) (count_in at_record (n + 1) xs)
 
 -- Errors. ----
 
@@ -110,7 +122,7 @@ pub memory_told : (r : Result Book Blocked) → TellsBlocked r errors.OutOfMemor
 memory_told (Ok b) = tt
 memory_told (Err b) = tt
 
-memory_alone : (b : Book) (e : ImportError) → TellsBlocked (Ok b) e → e ≡ errors.OutOfMemory
+pub memory_alone : (b : Book) (e : ImportError) → TellsBlocked (Ok b) e → e ≡ errors.OutOfMemory
 memory_alone b errors.OutOfMemory h = refl
 memory_alone b e h = absurd h
 
@@ -127,9 +139,40 @@ pub error_beside : (n : FieldNumber) (e : BookError) → (e ≡ book.OutOfMemory
 error_beside n book.OutOfMemory h = absurd (h refl)
 error_beside n e h = refl
 
+-- What typing keeps, and why it refuses. ----
+
+-- a step that is taken leaves the tables, and as many sheets
+record IsLike (old left : Book) : Type 0 where
+  tables : left.tables ≡ old.tables
+  counted : length left.sheets ≡ length old.sheets
+
+abbrev LeavesLike : Book → Stepped Book → Type 0
+LeavesLike old (Ok done) = IsLike old done.0
+LeavesLike old (Err why) = Unit {0}
+
+-- merged cells, or an array, refuse a field
+abbrev pub IsBlock : Refusal → Type 0
+IsBlock why = (why ≡ MergedPart) ⊎ (why ≡ ArrayPart)
+
+-- fields that are typed keep the tables, and only so is one refused
+abbrev pub TypesLike : Book → Result Book Blocked → Type 0
+TypesLike old (Ok left) = left.tables ≡ old.tables
+TypesLike old (Err stop) = IsBlock stop.why
+
 -- One field after another. ----
 
+-- a place as it is counted
+pub place_cast : (start : ℤ) (n : ℕ) → pos 1 ≤ℤ start → 1 ≤ n → (start +ℤ pos n -ℤ pos 1) ≤ℤ pos 1048576
+    → to_z w32 (of_z w32 (to_z w32 (of_z w32 start) +ℤ to_z w32 (n - 1))) ≡ (start +ℤ pos n -ℤ pos 1)
+place_cast start n low some high = omega (arith, ints)
+
 module _ (sheet : ℕ) (at : CellPlace) where
+  -- the step of the command is that of the field
+  pub field_step : (f : Field) (row column : ℤ) (text : List ℕ) (b : Book) → row ≡ (place_of at f).0 → column ≡ (place_of at f).1 → text ≡ chars f.bytes → writing_step b (SetUserInput sheet row column text) ≡ type_field sheet at f b
+  field_step f row column text b r c t =
+      ap (λ x. writing_step b (SetUserInput sheet x column text)) r ∙ ap (λ y. writing_step b (SetUserInput sheet (place_of at f).0 y text)) c
+      ∙ ap (λ u. writing_step b (SetUserInput sheet (place_of at f).0 (place_of at f).1 u)) t
+
   after_one : (f : Field) (first others : List Field) (left : Book) (made : Stepped Book) → ((b : Book) → typed sheet at first b ≡ Ok left → typed sheet at (first ++ others) b ≡ typed sheet at others left)
       → go_on f (typed sheet at first) made ≡ Ok left → go_on f (typed sheet at (first ++ others)) made ≡ typed sheet at others left
   after_one f first others left (Ok done) more e = more done.0 e
@@ -173,17 +216,6 @@ module _ (sheet : ℕ) (at : CellPlace) where
           subst (TellsBlocked (typed sheet at (f ∷ []) (whole_of old.book))) (sym (error_told (number_of f) e why is))
           (subst (λ (r : Result Book Blocked). TellsBlocked r (errors.Blocked f.at_record f.at_field e)) (sym stops) (refl, refl, is))
 
-  -- What typing keeps, and why it refuses. ----
-
-  -- a step that is taken leaves the tables, and as many sheets
-  record IsLike (old left : Book) : Type 0 where
-    tables : left.tables ≡ old.tables
-    counted : length left.sheets ≡ length old.sheets
-
-  abbrev LeavesLike : Book → Stepped Book → Type 0
-  LeavesLike old (Ok done) = IsLike old done.0
-  LeavesLike old (Err why) = Unit {0}
-
   like_unless : (old : Book) (o : Option Refusal) (left : Book) (fields : List Told) → IsLike old left → LeavesLike old (unless o left fields)
   like_unless old None left fields h = h
   like_unless old (Some why) left fields h = tt
@@ -195,10 +227,6 @@ module _ (sheet : ℕ) (at : CellPlace) where
   step_like : (f : Field) (b : Book) → LeavesLike b (type_field sheet at f b)
   unfolding input_step
   step_like f b = like_found b (slice_get b.sheets sheet) _ (λ s. like_unless b _ _ _ (record { tables = refl; counted = length_updated _ sheet b.sheets }))
-
-  -- where the sheet is there and the place is in it, a field is refused for merged cells or an array
-  abbrev IsBlock : Refusal → Type 0
-  IsBlock why = (why ≡ MergedPart) ⊎ (why ≡ ArrayPart)
 
   by_causes : (row column merged fixed : Bool) (left : Book) (why : Refusal) → row ≡ true → column ≡ true
       → unless (first_refusal ((not row, InvalidRow) ∷ (not column, InvalidColumn) ∷ (merged, MergedPart) ∷ (fixed, ArrayPart) ∷ [])) left [] ≡ Err why → IsBlock why
@@ -222,11 +250,6 @@ module _ (sheet : ℕ) (at : CellPlace) where
           let parts = and_parts (is_row place.0) (is_column place.1) inside in
           by_causes (is_row place.0) (is_column place.1) (is_covered s.grid.merges place) (is_fixed_at held s.grid.contents place) (with_written b sheet s place (typed_written b s place (typed_in b (chars f.bytes)))) why parts.0 parts.1 e
 
-  -- the same of all fields
-  abbrev TypesLike : Book → Result Book Blocked → Type 0
-  TypesLike old (Ok left) = left.tables ≡ old.tables
-  TypesLike old (Err stop) = IsBlock stop.why
-
   go_like : (f : Field) (b : Book) (others : Book → Result Book Blocked) (made : Stepped Book) → type_field sheet at f b ≡ made → lacks_sheet b sheet ≡ false → is_in_sheet (place_of at f) ≡ true
       → ((c : Book) → lacks_sheet c sheet ≡ false → TypesLike c (others c)) → LeavesLike b made → TypesLike b (go_on f others made)
   go_like f b others (Err why) is there inside more like = step_blocks f b why there inside is
@@ -242,3 +265,8 @@ module _ (sheet : ℕ) (at : CellPlace) where
   types_like [] b there h = refl
   types_like (f ∷ fields) b there h =
       go_like f b (typed sheet at fields) (type_field sheet at f b) refl there (typable_first at f fields h).1 (λ c stands. types_like fields c stands (typable_parts at (f ∷ []) fields h).1) (step_like f b)
+
+-- the error that a `?` hands on
+pub error_as : {T : Type 0} (r : Result T ImportError) (e : ImportError) (P : ImportError → Type 0) → IsErr r × IsErrAnd r (λ f. f ≡ e) → P e → IfErr r P
+error_as (Ok value) e P is p = tt
+error_as (Err f) e P is p = subst P (sym is.1) p
