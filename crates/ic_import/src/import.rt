@@ -82,7 +82,16 @@ pub fn import_csv<'a, S: Source>(
         Err(e) => return Err(ImportError::Book(e)),
     };
     let bytes = all_bytes(alloc, source)?;
-    import_bytes(alloc, model, tables, at, locale_id, language_id, bytes.as_slice(), separator)
+    import_bytes(
+        alloc,
+        model,
+        tables,
+        at,
+        locale_id,
+        language_id,
+        bytes.as_slice(),
+        separator,
+    )
 }
 
 /// The same of all bytes of a source, for a request that nothing refuses, with what parts its fields.
@@ -108,7 +117,16 @@ fn import_bytes<'a>(
     ensures blocked { IfErr result BlocksRightly }
 {
     look_over(alloc, bytes, separator, at)?;
-    put_in(alloc, model, tables, at, locale_id, language_id, bytes, separator)
+    put_in(
+        alloc,
+        model,
+        tables,
+        at,
+        locale_id,
+        language_id,
+        bytes,
+        separator,
+    )
 }
 
 /// What parts the fields of a request, in a book that borrows these tables. The error is what refuses the request; no memory is
