@@ -1,5 +1,5 @@
 -- What refuses a request, how a notation is put in force, and what the parts of an import tell together.
-use Rattle.std.proofs.Common.{◌≡◌, ⊥, ℕ, ℤ, List, [], ◌∷◌, Bool, true, false, not, Option, Some, None, IsSome, String, Global, option_map, Result, Ok, Err, IfErr, length, refl, sym, ap, subst, ◌∙◌, ◌×◌, inl, inr, ◌⊎◌, chars, string_bytes}
+use Rattle.std.proofs.Common.{◌≡◌, ℕ, ℤ, List, [], ◌∷◌, Bool, true, false, cond, not, Option, Some, None, IsSome, String, Global, option_map, Result, Ok, Err, IfErr, is_err, length, refl, sym, ap, subst, ◌∙◌, inl, inr, chars, string_bytes}
 use Rattle.std.proofs.lemmas.Bool.{not-false}
 use Rattle.std.specs.List.{find, slice_get}
 use Rattle.std.specs.Prelude.{is_none, is_some}
@@ -146,14 +146,14 @@ found_done (Some s) step done e = (s, refl)
 
 -- a look at a cell is refused exactly where there is no such sheet
 module _ {T : Type 0} (fields : T → List Told) (now : ModelState) (sheet : ℕ) (row column : ℤ) where
-  abbrev Lacks : BookError → Type 0
-  Lacks e = (refusal_of e ≡ Some InvalidSheet) × (lacks_sheet (whole_of now.book) sheet ≡ true)
+  abbrev IsSheetLacked : BookError → Type 0
+  IsSheetLacked e = (refusal_of e ≡ Some InvalidSheet) × (lacks_sheet (whole_of now.book) sheet ≡ true)
 
-  pub sheet_lacked : (e : BookError) → DoesOnly reading_step (IsEmptyCell sheet row column) fields (Err e) now now → Lacks e
+  pub sheet_lacked : (e : BookError) → DoesOnly reading_step (IsEmptyCell sheet row column) fields (Err e) now now → IsSheetLacked e
   unfolding empty_step
   sheet_lacked e h = by_refusal (refusal_of e) refl h.done
     where
-      by_refusal : (o : Option Refusal) → refusal_of e ≡ o → Refused Never (reading_step (whole_of now.book) (IsEmptyCell sheet row column)) now now o → Lacks e
+      by_refusal : (o : Option Refusal) → refusal_of e ≡ o → Refused Never (reading_step (whole_of now.book) (IsEmptyCell sheet row column)) now now o → IsSheetLacked e
       by_refusal None is told = absurd told
       by_refusal (Some why) is told =
           let found = found_refused (slice_get (whole_of now.book).sheets sheet) _ why told.0 (λ s e. cc) in
@@ -259,13 +259,13 @@ blocking why told e (inl h) = cc
 blocking why told e (inr h) = cc
 
 module _ (request : Request) (b : machine.Book) (records : List (List (List ℕ))) where
-  abbrev fields : List Field
-  fields = all_fields records
+  abbrev its_fields : List Field
+  its_fields = all_fields records
 
-  abbrev made : Result machine.Book Blocked
-  made = typed request.sheet request.at fields (in_notation request.locale request.language b)
+  abbrev its_typing : Result machine.Book Blocked
+  its_typing = typed request.sheet request.at its_fields (in_notation request.locale request.language b)
 
-  pub typed_told : (counts : ℕ × ℕ) (mid left : machine.Book) → made ≡ Ok mid → left ≡ in_notation b.locale b.language mid → counts ≡ (length records, length fields) → TellsTyping request b records (Ok counts) left
+  pub typed_told : (counts : ℕ × ℕ) (mid left : machine.Book) → its_typing ≡ Ok mid → left ≡ in_notation b.locale b.language mid → counts ≡ (length records, length its_fields) → TellsTyping request b records (Ok counts) left
   typed_told counts mid left is becomes counted = record {
     told = (ap (typed_outcome b) is ∙ ap (λ (c : machine.Book). Leaves c) (sym becomes), counted);
     which = tt;
@@ -275,10 +275,10 @@ module _ (request : Request) (b : machine.Book) (records : List (List (List ℕ)
   pub memory_typed : (left : machine.Book) → TellsTyping request b records (Err errors.OutOfMemory) left
   memory_typed left = record { told = tt; which = tt; blocked = tt }
 
-  pub blocked_told : (left : machine.Book) (e : ImportError) → lacks_sheet b request.sheet ≡ false → Typable request.at fields → TellsBlocked made e → TellsTyping request b records (Err e) left
-  blocked_told left e there typable told = by_result made refl (types_like request.sheet request.at fields (in_notation request.locale request.language b) there typable) told
+  pub blocked_told : (left : machine.Book) (e : ImportError) → lacks_sheet b request.sheet ≡ false → Typable request.at its_fields → TellsBlocked its_typing e → TellsTyping request b records (Err e) left
+  blocked_told left e there typable told = by_result its_typing refl (types_like request.sheet request.at its_fields (in_notation request.locale request.language b) there typable) told
     where
-      by_error : (stop : Blocked) (f : ImportError) → made ≡ Err stop → IsBlock stop.why → TellsBlocked (Err stop) f → TellsTyping request b records (Err f) left
+      by_error : (stop : Blocked) (f : ImportError) → its_typing ≡ Err stop → IsBlock stop.why → TellsBlocked (Err stop) f → TellsTyping request b records (Err f) left
       by_error stop errors.OutOfMemory is block told = memory_typed left
       by_error stop (errors.Blocked at_record at_field why) is block told = record {
         told = (
@@ -291,13 +291,13 @@ module _ (request : Request) (b : machine.Book) (records : List (List (List ℕ)
       }
       by_error stop f is block told = absurd told
 
-      by_result : (r : Result machine.Book Blocked) → made ≡ r → TypesLike (in_notation request.locale request.language b) r → TellsBlocked r e → TellsTyping request b records (Err e) left
+      by_result : (r : Result machine.Book Blocked) → its_typing ≡ r → TypesLike (in_notation request.locale request.language b) r → TellsBlocked r e → TellsTyping request b records (Err e) left
       by_result (Ok mid) is like told = subst (λ (f : ImportError). TellsTyping request b records (Err f) left) (sym (memory_alone mid e told)) (memory_typed left)
       by_result (Err stop) is like told = by_error stop e is like told
 
   -- where all fields are typed, the tables are the book's
-  pub tables_typed : (mid : machine.Book) → lacks_sheet b request.sheet ≡ false → Typable request.at fields → made ≡ Ok mid → mid.tables ≡ b.tables
-  tables_typed mid there typable is = subst (TypesLike (in_notation request.locale request.language b)) is (types_like request.sheet request.at fields (in_notation request.locale request.language b) there typable)
+  pub tables_typed : (mid : machine.Book) → lacks_sheet b request.sheet ≡ false → Typable request.at its_fields → its_typing ≡ Ok mid → mid.tables ≡ b.tables
+  tables_typed mid there typable is = subst (TypesLike (in_notation request.locale request.language b)) is (types_like request.sheet request.at its_fields (in_notation request.locale request.language b) there typable)
 
 -- What all bytes come to. ----
 

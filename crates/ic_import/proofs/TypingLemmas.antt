@@ -270,3 +270,7 @@ module _ (sheet : ℕ) (at : CellPlace) where
 pub error_as : {T : Type 0} (r : Result T ImportError) (e : ImportError) (P : ImportError → Type 0) → IsErr r × IsErrAnd r (λ f. f ≡ e) → P e → IfErr r P
 error_as (Ok value) e P is p = tt
 error_as (Err f) e P is p = subst P (sym is.1) p
+
+pub result_as : {T : Type 0} (r : Result T ImportError) (e : ImportError) (P : Result T ImportError → Type 0) → IsErr r × IsErrAnd r (λ f. f ≡ e) → P (Err e) → P r
+result_as (Ok value) e P is p = let no : false ≡ true = is.0 in cc
+result_as (Err f) e P is p = subst (λ (x : ImportError). P (Err x)) (sym is.1) p

@@ -87,4 +87,4 @@ pub returns-clause-typed : goal.returns-clause-typed
 returns-clause-typed c =
     let place : CellPlace = (c.args.at.now.row, c.args.at.now.column) in
     let none = subst (λ b. TakesRecord b c.records.records c.take.new.self (fields_of c.take.new.fields)) c.if-branch.false c.in_ok-take.ensures in
-    sym c.records.invariant.typed ∙ ap (λ (rs : List (List (List ℕ))). typed c.args.at.now.sheet place (fields_from (c.records.at_record + 1) rs) (whole_of c.records.model.book)) none.0
+    sym c.records.invariant.typed ∙ ap (λ (rs : List (List (List ℕ))). typed c.args.at.now.sheet place (fields_from (c.records.at_record + 1) rs) (whole_of c.records.model.book)) none
