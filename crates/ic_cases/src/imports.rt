@@ -53,8 +53,14 @@ fn put_import_error(row: &mut Row<'_>, e: &ImportError) {
     row.put("error\t");
     row.put_made(e.to_string(row.alloc));
     match e {
-        ImportError::NotUtf8 { at_record, at_field }
-        | ImportError::OutsideSheet { at_record, at_field } => {
+        ImportError::NotUtf8 {
+            at_record,
+            at_field,
+        }
+        | ImportError::OutsideSheet {
+            at_record,
+            at_field,
+        } => {
             put_counts(row, "", *at_record, *at_field);
         }
         ImportError::Blocked {

@@ -3,6 +3,7 @@ use crate::row::Row;
 
 /// The characters that stand for bytes.
 const FIRST: u32 = 0xE080;
+
 const LAST: u32 = 0xE0FF;
 
 /// The bytes that a text says: a character from U+E080 to U+E0FF says the byte of its last two digits, and every other one itself,
