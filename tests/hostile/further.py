@@ -3,7 +3,7 @@
 python3 tests/hostile/further.py share|import PROGRAM [--most=N]: PROGRAM is ic_share_desk or ic_import_desk. `share` runs
 tests/reading/sessions/household.lines as the lines of three users with languages of their own, between some that are nobody's;
 `import` runs a file of a bank in German, and files that are refused. In turn: each call of malloc and realloc is refused, alone and with
-all that come after it (with --most=N only so many, at even distances); each limit of address space, page by page; each read and each
+all that come after it (with --most=N only so many, at even distances); each limit of address space; each read and each
 write fails once, in pieces of 1, 7 and 4,096 bytes; each beginning of the input; inputs and outputs that are closed, full, folders or
 left; words that are none. A shared book ends as it does unharmed, or with the status for the harm after the first of the same
 replies, whole, and after a write that failed after exactly what was taken. An import ends as it does unharmed, or with that status
@@ -81,17 +81,20 @@ def refused(program, name, given, words, most, tried):
     print(f"{name}: {count} calls of malloc and realloc; {tried.runs} runs, {tried.cut} with status 6, {tried.wrong} wrong so far", flush=True)
 
 
-def in_pages(program, name, given, words, tried):
-    """Each limit of address space from the least in which the program starts, until 64 in a row were enough."""
+def in_little(program, name, given, words, tried):
+    """Each limit of address space from the least in which the program starts, until 20 in a row were enough: page by page, and for thirty
+    times as much by 16 pages."""
     start = least_that(lambda space: run(program, b"", space, MEGABYTE).status == 0, PAGE, 64 * MEGABYTE, PAGE)
-    whole = run(program, given, words=words)
-    space, enough = start, 0
-    while enough < 64 and space < start + 64 * MEGABYTE:
-        ran = run(program, given, space, MEGABYTE, words=words)
-        tried.look(f"{name} in {space // 1024} KB", ran, whole)
-        enough = enough + 1 if ran.status == whole.status else 0
-        space += PAGE
-    print(f"{name}: from {start // 1024} KB to {space // 1024} KB; {tried.runs} runs, {tried.cut} with status 6, {tried.wrong} wrong so far", flush=True)
+    for times, step in ((1, PAGE), (30, 16 * PAGE)):
+        many = given * times
+        whole = run(program, many, words=words)
+        space, enough = start, 0
+        while enough < 20 and space < start + 256 * MEGABYTE:
+            ran = run(program, many, space, MEGABYTE, words=words)
+            tried.look(f"{name}, {times} times, in {space // 1024} KB", ran, whole)
+            enough = enough + 1 if ran.status == whole.status else 0
+            space += step
+        print(f"{name}, {times} times: in {start // 1024} to {space // 1024} KB; {tried.runs} runs, {tried.cut} with status 6, {tried.wrong} wrong so far", flush=True)
 
 
 def faulty(kind, program, name, given, words, looked):
@@ -166,7 +169,7 @@ def main(kind, program, *options):
     tried, looked = Cut(kind), streams.Looked()
     for name, (given, words) in files.items():
         refused(program, name, given, words, most, tried)
-        in_pages(program, name, given, words, tried)
+        in_little(program, name, given, words, tried)
         faulty(kind, program, name, given, words, looked)
     if kind == "share":
         for part in (streams.inputs, streams.outputs, streams.slow_reader):
