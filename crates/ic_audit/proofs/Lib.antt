@@ -1,3 +1,4 @@
 pub mod AskedLemmas
 pub mod GoneLemmas
 pub mod ListedLemmas
+pub mod MomentLemmas

@@ -32,17 +32,17 @@ abbrev pub TellsSitesFront : Option (List Site) → List ℕ → List ℕ → Ty
 TellsSitesFront None before now = ⊥
 TellsSitesFront (Some sites) before now = AppendsFront (told_sites sites) before now
 
--- The sites that are asked for, in the book after the lines of some bytes, from a new one that was made at some moment. ----
+-- The sites that are asked for, in the book after the lines of some bytes, from a new one, whenever that was made. ----
 
 abbrev pub AppendsSites : Question → TableSet → List ℕ → List ℕ → List ℕ → Type 0
-AppendsSites question tables bytes before now = (created : List ℕ) × TellsSites (sites_asked question (book_after tables created bytes)) before now
+AppendsSites question tables bytes before now = (created : List ℕ) → TellsSites (sites_asked question (book_after tables created bytes)) before now
 
 abbrev pub AppendsSitesFront : Question → TableSet → List ℕ → List ℕ → List ℕ → Type 0
-AppendsSitesFront question tables bytes before now = (created : List ℕ) × TellsSitesFront (sites_asked question (book_after tables created bytes)) before now
+AppendsSitesFront question tables bytes before now = (created : List ℕ) → TellsSitesFront (sites_asked question (book_after tables created bytes)) before now
 
 -- there is such a sheet, or such a definition; or there is none
 abbrev pub FindsSome : Question → TableSet → List ℕ → List ℕ → Type 0
-FindsSome question tables bytes left = (created : List ℕ) × IsSome (sites_asked question (book_after tables created bytes))
+FindsSome question tables bytes left = (created : List ℕ) → IsSome (sites_asked question (book_after tables created bytes))
 
 abbrev pub FindsNothing : Question → TableSet → List ℕ → List ℕ → Type 0
-FindsNothing question tables bytes left = (created : List ℕ) × (sites_asked question (book_after tables created bytes) ≡ None)
+FindsNothing question tables bytes left = (created : List ℕ) → sites_asked question (book_after tables created bytes) ≡ None

@@ -291,7 +291,7 @@ module _ (m : Metadata) (b : Book) where
   left_by_command None = refl
   left_by_command (Some command) = left_by_reader (is_reader command) command (follows command) (readers_leave b command) (readers_leave (M b) command)
 
-  left_same : (line : List ℕ) → M (left_after b line) ≡ left_after (M b) line
+  pub left_same : (line : List ℕ) → M (left_after b line) ≡ left_after (M b) line
   left_same line = left_by_command (command_in (english_errors b) commands line)
 
   -- Why a line can't be translated. ----

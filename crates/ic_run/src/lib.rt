@@ -27,5 +27,5 @@ pub use lines::{law_core_lines_are_done, run};
 pub use make::written;
 pub use prepared::book_after;
 pub use program::{desk, status_of};
-pub use start::{Start, first_book, start_named};
+pub use start::{Start, english_book, first_book, start_named};
 pub use translating::{TranslateError, translate};

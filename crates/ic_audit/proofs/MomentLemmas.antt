@@ -1,0 +1,28 @@
+-- What is asked for doesn't hang on the moment when the book was made.
+use Rattle.std.proofs.Common.{◌≡◌, ℕ, List, [], ◌∷◌, refl, sym, ap, ◌∙◌}
+use Rattle.ic_laws.specs.Lines.{texts_of}
+use Rattle.ic_tables.specs.Tables.{TableSet}
+use Rattle.ic_machine.specs.Book.{Book, Metadata}
+use Rattle.ic_machine.specs.Run.{after}
+use Rattle.ic_machine.specs.Translation.{left_after}
+use Rattle.ic_machine.proofs.MetadataFree.{left_same, with_metadata}
+use Rattle.ic_book.specs.Book as held
+use Rattle.ic_book.specs.Book.{metadata_made}
+use Rattle.ic_book.specs.Whole.{whole_of}
+use Rattle.ic_run.specs.Core.{whole_machine}
+use Rattle.ic_run.specs.Make.{made_start}
+use Rattle.ic_run.specs.Prepared.{IsBookAfter, book_after}
+use Rattle.ic_audit.specs.Asked.{OfName, OfSheet, Question, sites_asked}
+
+after_anytime : (m : Metadata) (book : Book) (lines : List (List ℕ)) → after whole_machine (with_metadata m book) lines ≡ with_metadata m (after whole_machine book lines)
+after_anytime m book [] = refl
+after_anytime m book (line ∷ lines) = ap (λ (b : Book). after whole_machine b lines) (sym (left_same m book line)) ∙ after_anytime m (left_after book line) lines
+
+no_metadata : (question : Question) (m : Metadata) (book : Book) → sites_asked question (with_metadata m book) ≡ sites_asked question book
+no_metadata (OfSheet name) m book = refl
+no_metadata (OfName name scope) m book = refl
+
+pub asked_anytime : (question : Question) (tables : TableSet) (bytes : List ℕ) (book : held.Book) → IsBookAfter tables book bytes [] → (other : List ℕ) → sites_asked question (whole_of book) ≡ sites_asked question (book_after tables other bytes)
+asked_anytime question tables bytes book is other =
+    ap (sites_asked question) is.1 ∙ sym (no_metadata question (metadata_made other) (book_after tables is.0 bytes))
+    ∙ ap (sites_asked question) (sym (after_anytime (metadata_made other) (made_start is.0 tables) (texts_of bytes)))
