@@ -1,5 +1,5 @@
 -- The words of the program, and what it writes.
-use Rattle.std.specs.Prelude.{◌≡◌, ⊥, ℕ, pos, List, [], ◌∷◌, ◌++◌, Option, Some, None, Result, Ok, Err, chars, codes, encode_utf8_all}
+use Rattle.std.specs.Prelude.{◌≡◌, ℕ, pos, List, [], ◌∷◌, ◌++◌, Option, Some, None, Result, Ok, Err, chars, codes, encode_utf8_all}
 use Rattle.std.specs.Fmt.{decimal}
 use Rattle.std.specs.List.{slice_get}
 use Rattle.std.specs.Option.{option_map_or}
@@ -40,24 +40,26 @@ Says (Outside at_record at_field) status text = (status ≡ 8) × (text ≡ refu
 Says (Refused at_record at_field why) status text = ⊥
 Says (Leaves book) status text = (status ≡ 0) × (text ≡ first_markup book ++ line_feed ∷ [])
 
--- the outcome of bytes that are imported into a new book in en, en and UTC, which was made at this moment
-abbrev pub new_outcome : Target → TableSet → List ℕ → List ℕ → Outcome
-new_outcome target tables created bytes = outcome (request_of target) (made_start created tables) bytes
+-- This status is that of the outcome of bytes in a book, and its text stands after what was written before; or a front of the
+-- text does, which isn't all of it. ----
 
--- This status is that of the outcome of bytes, in a book that was made at some moment, and its text stands after what was
--- written before; or a front of the text, which isn't all of it.
-pub record HasWritten (target : Target) (tables : TableSet) (status : ℕ) (before now : Option (List ℕ)) (bytes rest : List ℕ) : Type 0 where
-  pub created : List ℕ
+pub record Writes (target : Target) (book : Book) (status : ℕ) (before now : Option (List ℕ)) (bytes rest : List ℕ) : Type 0 where
   pub text : List ℕ
-  pub says : Says (new_outcome target tables created bytes) status text
+  pub says : Says (outcome (request_of target) book bytes) status text
   pub written : IfTold before now (λ old new. new ≡ old ++ encode_utf8_all text)
 
-pub record HasWrittenPart (target : Target) (tables : TableSet) (before now : Option (List ℕ)) (bytes rest : List ℕ) : Type 0 where
-  pub created : List ℕ
+pub record WritesPart (target : Target) (book : Book) (before now : Option (List ℕ)) (bytes rest : List ℕ) : Type 0 where
   pub status : ℕ
   pub text : List ℕ
-  pub says : Says (new_outcome target tables created bytes) status text
+  pub says : Says (outcome (request_of target) book bytes) status text
   pub written : IfTold before now (AppendsFront (encode_utf8_all text))
+
+-- the same in the new book in en, en and UTC, which was made at some moment
+abbrev pub HasWritten : Target → TableSet → ℕ → Option (List ℕ) → Option (List ℕ) → List ℕ → List ℕ → Type 0
+HasWritten target tables status before now bytes rest = (created : List ℕ) × Writes target (made_start created tables) status before now bytes rest
+
+abbrev pub HasWrittenPart : Target → TableSet → Option (List ℕ) → Option (List ℕ) → List ℕ → List ℕ → Type 0
+HasWrittenPart target tables before now bytes rest = (created : List ℕ) × WritesPart target (made_start created tables) before now bytes rest
 
 -- The same by an answer and the book that it left. ----
 
@@ -67,21 +69,18 @@ SaysOf (Err (errors.NotUtf8 at_record at_field)) book status text = Says (NoText
 SaysOf (Err (errors.OutsideSheet at_record at_field)) book status text = Says (Outside at_record at_field) status text
 SaysOf (Err e) book status text = ⊥
 
--- the status of an answer; that the book refuses a field never comes
+-- the status of an answer where neither the request nor a field is refused
 abbrev pub status_of : {T : Type 0} → Result T ImportError → ℕ
 status_of (Ok counts) = 0
-status_of (Err (errors.Book e)) = 2
 status_of (Err errors.ReadFault) = 3
 status_of (Err errors.TooManyTurns) = 5
-status_of (Err (errors.NotUtf8 at_record at_field)) = 8
-status_of (Err (errors.OutsideSheet at_record at_field)) = 8
-status_of (Err (errors.Blocked at_record at_field why)) = 8
 status_of (Err errors.OutOfMemory) = 6
+status_of (Err e) = 8
 
--- an answer of an import into a new book: no field is refused
-abbrev pub NeverBlocks : {T : Type 0} → Result T ImportError → Type 0
-NeverBlocks (Err (errors.Blocked at_record at_field why)) = ⊥
-NeverBlocks result = Unit {0}
+abbrev pub NeverRefuses : {T : Type 0} → Result T ImportError → Type 0
+NeverRefuses (Err (errors.Book e)) = ⊥
+NeverRefuses (Err (errors.Blocked at_record at_field why)) = ⊥
+NeverRefuses result = Unit {0}
 
 -- the notation that the words ask for, as texts
 abbrev pub target : Asked → Target

@@ -1,5 +1,5 @@
 -- What an import is asked for, what it leaves, and what each of its answers tells.
-use Rattle.std.specs.Prelude.{◌≡◌, ⊥, ℕ, List, [], ◌∷◌, not, Option, Some, None, is_none, length, Result, Ok, Err, IfErr}
+use Rattle.std.specs.Prelude.{◌≡◌, ℕ, List, [], ◌∷◌, not, Option, Some, None, is_none, length, Result, Ok, Err, IfErr}
 use Rattle.std.specs.Option.{option_map_or}
 use Rattle.ic_laws.specs.Character.{comma}
 use Rattle.ic_laws.specs.CoreBook.{CellPlace}

@@ -38,8 +38,8 @@ is_no_text field = not (is_utf8 field.bytes)
 abbrev pub first_no_text : List Field → Option Field
 first_no_text fields = find is_no_text fields
 
--- One read of the next record: there was one, with these fields, and the others are left; or none was left. ----
+-- One read of the next record: there was one, with these fields, and the others are left; or there was none.
 
 abbrev pub TakesRecord : Bool → List (List (List ℕ)) → List (List (List ℕ)) → List (List ℕ) → Type 0
 TakesRecord true before now fields = before ≡ fields ∷ now
-TakesRecord false before now fields = (before ≡ []) × (now ≡ [])
+TakesRecord false before now fields = before ≡ []

@@ -1,5 +1,5 @@
 -- What typing fields leaves of a book, one after another.
-use Rattle.std.specs.Prelude.{◌≡◌, ⊥, ℕ, List, [], ◌∷◌, chars, None, Result, Ok, Err, Some}
+use Rattle.std.specs.Prelude.{◌≡◌, ℕ, List, [], ◌∷◌, chars, None, Result, Ok, Err, Some}
 use Rattle.ic_laws.specs.CoreBook.{CellPlace}
 use Rattle.ic_machine.specs.Book.{Book, Stepped}
 use Rattle.ic_machine.specs.Refusal.{Refusal}

@@ -1,5 +1,5 @@
 //! What the words of the program ask for.
-ghost use Rattle.std.specs.Prelude.{◌≡◌, option_map};
+ghost use Rattle.std.specs.Prelude.{◌≡◌, [], ◌∷◌, chars, option_map};
 ghost use Rattle.ic_run.specs.Desk.{texts};
 ghost use Rattle.ic_import.specs.Desk.{target, target_of};
 
@@ -20,11 +20,15 @@ pub fn asked_for(words: &[String]) -> Option<Asked<'_>>
             language: "en",
         });
     }
-    if words.len() != 2 {
-        return None;
+    if words.len() == 2 {
+        return notation(words[0].as_str(), words[1].as_str());
     }
-    Some(Asked {
-        locale: words[0].as_str(),
-        language: words[1].as_str(),
-    })
+    None
+}
+
+/// What two words ask for.
+fn notation<'w>(locale: &'w str, language: &'w str) -> Option<Asked<'w>>
+    ensures { option_map target result ≡ target_of (chars locale.now ∷ chars language.now ∷ []) }
+{
+    Some(Asked { locale, language })
 }

@@ -1,24 +1,24 @@
 //! What the program does with its words.
-ghost use Rattle.std.specs.Prelude.{◌≡◌, ◌≢◌, ◌⊎◌, ◌↔◌, ◌+◌, ◌<◌, ◌≤◌, ◌^◌, [], ◌∷◌, ◌++◌, None, Some, true, Err, chars, length, string_bytes, IfErr, IfOk, IfSome, IsNone, IsSome, IsSomeAnd, List, OnOk, encode_utf8_all, ℕ};
+ghost use Rattle.std.specs.Prelude.{◌≡◌, ◌≢◌, ◌⊎◌, ◌↔◌, ◌+◌, ◌<◌, ◌≤◌, ◌^◌, [], ◌∷◌, ◌++◌, None, Some, true, Err, Ok, chars, length, string_bytes, IfErr, IfOk, IfSome, IsNone, IsSome, IsSomeAnd, is_some, List, OnOk, encode_utf8_all, ℕ};
 ghost use Rattle.std.specs.Fmt.{decimal};
 ghost use Rattle.ic_laws.specs.Character.{line_feed};
 ghost use Rattle.ic_lines.specs.Bytes.{AppendsFront, HasFault, IfTold};
 ghost use Rattle.ic_book.specs.Whole.{whole_of};
-ghost use Rattle.ic_run.specs.Desk.{start_book, start_refusal, texts};
+ghost use Rattle.ic_run.specs.Core.{IsPlainBook};
+ghost use Rattle.ic_run.specs.Desk.{start_refusal, texts};
 ghost use Rattle.ic_run.specs.Make.{made_setting};
 ghost use Rattle.ic_run.specs.Translate.{target_refusal};
-ghost use Rattle.ic_import.specs.Desk.{HasWritten, HasWrittenPart, NeverBlocks, SaysOf, first_markup, refused_line, status_of, target, target_of};
-ghost use Rattle.ic_import.specs.Import.{RestsOnBytes};
+ghost use Rattle.ic_import.specs.Desk.{HasWritten, HasWrittenPart, NeverRefuses, SaysOf, Writes, WritesPart, first_markup, refused_line, status_of, target, target_of};
 
 use crate::ImportError;
 use crate::asked::{Asked, asked_for};
 use crate::import::import_csv;
-use ic_book::{BookError, Model};
+use ic_book::Model;
 use ic_laws::OutOfMemory;
 use ic_laws::scan::{push_char, push_text};
 use ic_lines::{Sink, Source};
 use ic_refs::CellReferenceIndex;
-use ic_run::written;
+use ic_run::{english_book, written};
 use ic_tables::Tables;
 use jiff::Timestamp;
 use std::alloc::Global;
@@ -121,15 +121,12 @@ fn imported<S: Source, K: Sink>(
         → ¬ HasFault (K.faults sink.old) (K.faults sink.new)
         → (result ≡ 0) ⊎ ((result ≡ 6) ⊎ (result ≡ 8)) }
 {
-    match new_model(alloc, tables, moment) {
+    if is_unknown(tables, asked) {
+        return 2;
+    }
+    match english_book(alloc, tables, moment) {
         Ok(mut model) => {
-            let at = CellReferenceIndex {
-                sheet: 0,
-                row: 1,
-                column: 1,
-            };
-            let result = import_csv(alloc, &mut model, tables, &at, asked.locale, asked.language, source);
-            let status = tell(alloc, &model, &result, sink);
+            let status = import_into(alloc, &mut model, tables, asked, source, sink);
             let _ = ManuallyDrop::new(model);
             status
         }
@@ -137,19 +134,64 @@ fn imported<S: Source, K: Sink>(
     }
 }
 
-/// A new book in en, en and UTC. Where there is none, the status: 2 exactly where the tables lack `en` or UTC, 6 where memory runs
-/// out.
-fn new_model<'a>(alloc: Global, tables: &'a Tables, moment: Timestamp) -> Result<Model<'a>, u8>
-    ensures start { IfOk result (λ m. m.book
-        ≡ start_book made_setting m.book.metadata.created tables.now) }
-    ensures unknown { (result ≡ Err 2) ↔ IsSome (start_refusal made_setting tables.now) }
-    ensures which { IfErr result (λ status. (status ≡ 2) ⊎ (status ≡ 6)) }
+/// Whether the tables lack the locale or the language that is asked for.
+fn is_unknown(tables: &Tables, asked: &Asked<'_>) -> bool
+    ensures { result ≡ is_some (target_refusal (target asked.now) tables.now) }
 {
-    match Model::new_empty(alloc, "workbook", "en", "UTC", "en", tables, moment) {
-        Ok(model) => Ok(model),
-        Err(BookError::OutOfMemory) => Err(6),
-        Err(_) => Err(2),
-    }
+    tables.get_named_locale(asked.locale).is_err() || tables.get_language(asked.language).is_err()
+}
+
+/// Imports a source into the first sheet of a book without merged cells and arrays of several cells, and writes what came of it.
+/// Answers the status.
+fn import_into<'a, S: Source, K: Sink>(
+    alloc: Global,
+    model: &mut Model<'a>,
+    tables: &'a Tables,
+    asked: &Asked<'_>,
+    source: &mut S,
+    sink: &mut K,
+) -> u8
+    requires tables { tables.now ≡ model.old.book.tables }
+    requires known { IsNone (target_refusal (target asked.now) tables.now) }
+    requires plain { IsPlainBook (whole_of model.old.book) }
+    requires some { 0 < length model.old.book.sheets }
+    ensures written { (result ≡ 0) ⊎ (result ≡ 8)
+        → IfTold (S.left source.old) (S.left source.new) (Writes (target asked.now)
+        (whole_of model.old.book) result (K.written sink.old) (K.written sink.new)) }
+    ensures front { result ≡ 4
+        → IfTold (S.left source.old) (S.left source.new) (WritesPart (target asked.now)
+        (whole_of model.old.book) (K.written sink.old) (K.written sink.new)) }
+    ensures nothing { (result ≡ 3) ⊎ ((result ≡ 5) ⊎ (result ≡ 6)) → sink.new ≡ sink.old }
+    ensures end { (result ≡ 0) ⊎ (result ≡ 8) → S.ended source.new ≡ true }
+    ensures taken { (result ≡ 0) ⊎ (result ≡ 8)
+        → IfTold (S.left source.old) (S.left source.new) (λ bytes left. left ≡ []) }
+    ensures known { (result ≢ 1) × (result ≢ 2) }
+    ensures read_fault { result ≡ 3 → HasFault (S.faults source.old) (S.faults source.new) }
+    ensures write_fault { result ≡ 4 → HasFault (K.faults sink.old) (K.faults sink.new) }
+    ensures too_many { result ≡ 5 → IfTold (S.left source.old) (S.left source.new)
+        (λ before now. 2 ^ 32 + length now ≤ length before) }
+    ensures unseen { result ≡ 5 → S.ended source.new ≡ S.ended source.old }
+    ensures most { (result ≤ 8) × (result ≢ 7) }
+    ensures completes { IsSomeAnd (S.left source.old) (λ bytes. length bytes < 2 ^ 32)
+        → ¬ HasFault (S.faults source.old) (S.faults source.new)
+        → ¬ HasFault (K.faults sink.old) (K.faults sink.new)
+        → (result ≡ 0) ⊎ ((result ≡ 6) ⊎ (result ≡ 8)) }
+{
+    let at = CellReferenceIndex {
+        sheet: 0,
+        row: 1,
+        column: 1,
+    };
+    let answer = import_csv(
+        alloc,
+        model,
+        tables,
+        &at,
+        asked.locale,
+        asked.language,
+        source,
+    );
+    tell(alloc, model, &answer, sink)
 }
 
 /// Writes what an import answered, and left of the book. The status: that of the answer, but 4 where the sink had a fault and 6
@@ -160,7 +202,7 @@ fn tell<K: Sink>(
     answer: &Result<(u64, u64), ImportError>,
     sink: &mut K,
 ) -> u8
-    requires { NeverBlocks answer.now }
+    requires { NeverRefuses answer.now }
     ensures written { (result ≡ 0) ⊎ (result ≡ 8) → (text : List ℕ)
         × SaysOf answer.now (whole_of model.now.book) result text
         × IfTold (K.written sink.old) (K.written sink.new)
@@ -169,11 +211,9 @@ fn tell<K: Sink>(
         × SaysOf answer.now (whole_of model.now.book) (status_of answer.now) text
         × IfTold (K.written sink.old) (K.written sink.new)
         (AppendsFront (encode_utf8_all text)) }
-    ensures nothing { (result ≡ 2) ⊎ ((result ≡ 3) ⊎ ((result ≡ 5) ⊎ (result ≡ 6)))
-        → sink.new ≡ sink.old }
+    ensures nothing { (result ≡ 3) ⊎ ((result ≡ 5) ⊎ (result ≡ 6)) → sink.new ≡ sink.old }
     ensures write_fault { result ≡ 4 → HasFault (K.faults sink.old) (K.faults sink.new) }
-    ensures which { (result ≡ status_of answer.now)
-        ⊎ (RestsOnBytes answer.now × ((result ≡ 4) ⊎ (result ≡ 6))) }
+    ensures which { (result ≡ 4) ⊎ ((result ≡ 6) ⊎ (result ≡ status_of answer.now)) }
 {
     match told(alloc, model, answer) {
         Ok(text) => written(sink, text.as_bytes(), status_of(answer)),
@@ -188,36 +228,51 @@ fn told(
     model: &Model<'_>,
     answer: &Result<(u64, u64), ImportError>,
 ) -> Result<String, u8>
-    requires { NeverBlocks answer.now }
+    requires { NeverRefuses answer.now }
     ensures text { IfOk result (λ text. SaysOf answer.now (whole_of model.now.book)
         (status_of answer.now) (chars (string_bytes text))) }
-    ensures none { IfErr result (λ status. (status ≡ status_of answer.now) ⊎ (status ≡ 6)) }
+    ensures none { IfErr result (λ status. (status ≡ 6)
+        ⊎ ((status ≡ status_of answer.now) × ((status ≡ 3) ⊎ (status ≡ 5)))) }
 {
-    let text = match answer {
-        Ok(_) => table(model),
-        Err(ImportError::NotUtf8 {
-            at_record,
-            at_field,
-        }) => refused(alloc, *at_record, *at_field, "NotUtf8"),
-        Err(ImportError::OutsideSheet {
-            at_record,
-            at_field,
-        }) => refused(alloc, *at_record, *at_field, "OutsideSheet"),
-        Err(_) => return Err(status_of(answer)),
-    };
+    match answer {
+        Ok(_) => or_no_memory(table(model)),
+        Err(
+            ImportError::NotUtf8 {
+                at_record,
+                at_field,
+            },
+        ) => or_no_memory(refused(alloc, *at_record, *at_field, "NotUtf8")),
+        Err(
+            ImportError::OutsideSheet {
+                at_record,
+                at_field,
+            },
+        ) => or_no_memory(refused(alloc, *at_record, *at_field, "OutsideSheet")),
+        Err(ImportError::ReadFault) => Err(3),
+        Err(ImportError::TooManyTurns) => Err(5),
+        Err(ImportError::OutOfMemory) => Err(6),
+        Err(ImportError::Book(_)) => unreachable!(),
+        Err(ImportError::Blocked { .. }) => unreachable!(),
+    }
+}
+
+/// A text; or the status where memory ran out.
+fn or_no_memory(text: Result<String, OutOfMemory>) -> Result<String, u8>
+    ensures text { IfOk result (λ made. text ≡ Ok made) }
+    ensures none { IfErr result (λ status. status ≡ 6) }
+{
     match text {
         Ok(text) => Ok(text),
         Err(OutOfMemory) => Err(6),
     }
 }
 
-/// The status of what an import answered. No field is refused in a new book.
+/// The status of what an import answered.
 fn status_of(answer: &Result<(u64, u64), ImportError>) -> u8
     ensures { result ≡ status_of answer.now }
 {
     match answer {
         Ok(_) => 0,
-        Err(ImportError::Book(_)) => 2,
         Err(ImportError::ReadFault) => 3,
         Err(ImportError::TooManyTurns) => 5,
         Err(ImportError::OutOfMemory) => 6,
@@ -227,7 +282,6 @@ fn status_of(answer: &Result<(u64, u64), ImportError>) -> u8
 
 /// The first sheet of a book as a table, and a line feed. Only memory can be missing.
 fn table(model: &Model<'_>) -> Result<String, OutOfMemory>
-    requires { 0 < length model.now.book.sheets }
     ensures { IfOk result (λ text. chars (string_bytes text)
         ≡ first_markup (whole_of model.now.book) ++ line_feed ∷ []) }
 {
@@ -239,12 +293,7 @@ fn table(model: &Model<'_>) -> Result<String, OutOfMemory>
 }
 
 /// The line that tells a wrong field by its numbers. Only memory can be missing.
-fn refused(
-    alloc: Global,
-    at_record: u64,
-    at_field: u64,
-    name: &str,
-) -> Result<String, OutOfMemory>
+fn refused(alloc: Global, at_record: u64, at_field: u64, name: &str) -> Result<String, OutOfMemory>
     ensures { IfOk result (λ text. chars (string_bytes text)
         ≡ refused_line at_record at_field (chars name.now)) }
 {

@@ -16,9 +16,15 @@ pub enum ImportError {
     /// 2^32 reads each gave at least one byte, and no end was met.
     TooManyTurns,
     /// This is the first field that isn't UTF-8.
-    NotUtf8 { at_record: u64, at_field: u64 },
+    NotUtf8 {
+        at_record: u64,
+        at_field: u64,
+    },
     /// This is the first field whose place leaves the sheet.
-    OutsideSheet { at_record: u64, at_field: u64 },
+    OutsideSheet {
+        at_record: u64,
+        at_field: u64,
+    },
     /// This is the first field that can't be typed: its cell is covered by merged cells (`MergedPart`), or belongs to a Cse
     /// array of more than one cell (`ArrayPart`).
     Blocked {

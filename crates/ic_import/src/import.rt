@@ -82,7 +82,16 @@ pub fn import_csv<'a, S: Source>(
     };
     let bytes = all_bytes(alloc, source)?;
     look_over(alloc, bytes.as_slice(), separator, at)?;
-    put_in(alloc, model, tables, at, locale_id, language_id, bytes.as_slice(), separator)
+    put_in(
+        alloc,
+        model,
+        tables,
+        at,
+        locale_id,
+        language_id,
+        bytes.as_slice(),
+        separator,
+    )
 }
 
 /// What parts the fields of a request, in a book that borrows these tables. The error is what refuses the request; no memory is

@@ -81,19 +81,19 @@ fn no_text_in(at_record: u64, fields: &ByteRecord) -> Option<FieldNumber>
     let mut at = 0;
     'fields: while let Some(field) = fields.get(at) {
         at += 1;
-        if str::from_utf8(field).is_err() {
+        let Ok(_) = str::from_utf8(field) else {
             return Some(FieldNumber {
                 at_record,
                 at_field: at as u64,
             });
-        }
+        };
     }
     None
 }
 
 /// The first field of a record whose place leaves the sheet.
 fn outside_in(start: Start, at_record: u64, fields: &ByteRecord) -> Option<FieldNumber>
-    requires record { (1 ≤ at_record) × (at_record ≤ 2 ^ 63) }
+    requires record { 1 ≤ at_record }
     requires row { is_row start.row ≡ true }
     requires column { is_column start.column ≡ true }
     ensures { result ≡ option_map number_of
@@ -116,14 +116,14 @@ fn outside_in(start: Start, at_record: u64, fields: &ByteRecord) -> Option<Field
 
 /// Whether the place of a field is one of the sheet.
 pub fn is_inside(start: Start, number: FieldNumber) -> bool
-    requires record { (1 ≤ number.at_record) × (number.at_record ≤ 2 ^ 63) }
-    requires field { (1 ≤ number.at_field) × (number.at_field ≤ 2 ^ 63) }
+    requires record { 1 ≤ number.at_record }
+    requires field { 1 ≤ number.at_field }
     requires row { is_row start.row ≡ true }
     requires column { is_column start.column ≡ true }
     ensures { result ≡ is_in_sheet
         (place_at (start.row, start.column) number.at_record number.at_field) }
 {
-    let row = start.row as u64 + (number.at_record - 1);
-    let column = start.column as u64 + (number.at_field - 1);
-    row <= LAST_ROW as u64 && column <= LAST_COLUMN as u64
+    let rows = LAST_ROW as u64 + 1 - start.row as u64;
+    let columns = LAST_COLUMN as u64 + 1 - start.column as u64;
+    number.at_record <= rows && number.at_field <= columns
 }

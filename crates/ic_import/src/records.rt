@@ -9,9 +9,15 @@ use std::alloc::Global;
 use std::marker::Model;
 
 /// The records of borrowed bytes that weren't taken yet.
-#[derive(Drop)]
 pub struct Records<'b> {
     reader: Reader<&'b [u8]>,
+}
+
+impl Drop for Records<'_> {
+    fn drop(self) {
+        let Self { reader } = self;
+        drop(reader);
+    }
 }
 
 impl<'b> Model for Records<'b> {
@@ -43,9 +49,9 @@ impl<'b> Records<'b> {
     pub fn take(&mut self, fields: &mut ByteRecord) -> Result<bool, OutOfMemory>
         ensures { IfOk result (λ found. TakesRecord found self.old self.new (fields_of fields.new)) }
     {
-        match self.reader.read_byte_record(fields) {
-            Ok(found) => Ok(found),
-            Err(_) => Err(OutOfMemory),
-        }
+        let Ok(found) = self.reader.read_byte_record(fields) else {
+            return Err(OutOfMemory);
+        };
+        Ok(found)
     }
 }

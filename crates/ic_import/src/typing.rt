@@ -35,8 +35,10 @@ pub fn type_all(
     ensures typed { OnOk result (typed at.now.sheet (at.now.row, at.now.column)
         (all_fields (records_of separator bytes.now)) (whole_of model.old.book)
         ≡ Ok (whole_of model.new.book)) }
-    ensures counted { IfOk result (λ counts. counts ≡ (length (records_of separator bytes.now),
-        length (all_fields (records_of separator bytes.now)))) }
+    ensures counted { IfOk result (λ counts. counts ≡ (
+      length (records_of separator bytes.now),
+      length (all_fields (records_of separator bytes.now)),
+    )) }
     ensures blocked { IfErr result (TellsBlocked (typed at.now.sheet (at.now.row, at.now.column)
         (all_fields (records_of separator bytes.now)) (whole_of model.old.book))) }
 {

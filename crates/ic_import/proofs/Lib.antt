@@ -1,0 +1,4 @@
+pub mod DeskLemmas
+pub mod FieldLemmas
+pub mod PlainTyping
+pub mod ReadLemmas
