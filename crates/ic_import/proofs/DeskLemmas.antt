@@ -1,9 +1,10 @@
 -- What the program asks for and writes.
-use Rattle.std.proofs.Common.{String, ◌≡◌, ◌<◌, ◌++◌, ◌∷◌, [], ℕ, List, Bool, true, false, cond, Option, Some, None, option_map, Result, Ok, Err, slice_get, codes, length, append_assoc, refl, sym, ap, subst, ◌∙◌, arith}
+use Rattle.std.proofs.Common.{String, ◌≡◌, ◌≢◌, ◌≤◌, ◌⊎◌, inl, inr, ◌<◌, ◌++◌, ◌∷◌, [], ℕ, List, Bool, true, false, cond, Option, Some, None, option_map, Result, Ok, Err, slice_get, codes, length, append_assoc, refl, sym, ap, subst, ◌∙◌, arith}
 use Rattle.std.proofs.lemmas.Bool.{lt-ltb}
+use Rattle.std.proofs.lemmas.Result.{IfOk-weaker}
 use Rattle.std.specs.Fmt.{decimal}
 use Rattle.std.specs.Option.{option_map_or}
-use Rattle.std.specs.Prelude.{IsNone, encode_utf8_all, is_none, not}
+use Rattle.std.specs.Prelude.{IfOk, IsNone, encode_utf8_all, string_bytes, nat_lt, is_none, not}
 use Rattle.std.specs.Str.{chars}
 use Rattle.std.specs.declared.alloc.Global.{Global}
 use Rattle.ic_laws.specs.Character.{line_feed, tab}
@@ -11,17 +12,18 @@ use Rattle.ic_lines.proofs.ToldLemmas.{IfTold-weaker}
 use Rattle.ic_lines.specs.Bytes.{AppendsFront, IfTold}
 use Rattle.ic_machine.specs.Book.{Book, Sheet, Stepped, found_or, lacks_sheet, unless_refused}
 use Rattle.ic_machine.specs.Refusal.{InvalidSheet, Refusal, first_refusal}
-use Rattle.ic_machine.specs.Reply.{Field as ReplyField, text_field}
+use Rattle.ic_machine.specs.Reply.{Field as ReplyField, TextField, text_field}
 use Rattle.ic_machine.specs.subjects.Reading.{markup_step, sheet_markup}
 use Rattle.ic_run.specs.Core.{IsPlainBook}
 use Rattle.ic_run.specs.Desk.{texts}
 use Rattle.ic_run.specs.Translate.{Target, target_refusal}
 use Rattle.ic_tables.specs.Tables.{language_of, locale_of}
 use Rattle.ic_import.specs.Desk.{NeverRefuses, Says, SaysOf, Writes, WritesPart, request_of, first_markup, refused_line, status_of, target_of}
-use Rattle.ic_import.specs.Import.{Leaves, NoText, Outcome, Outside, Refused, RestsOn, RestsOnBytes, Tells, TellsImport, in_notation, request_causes, request_refusal, outcome, outcome_of, typed_outcome}
+use Rattle.ic_import.specs.Import.{Leaves, NoText, Outcome, Outside, Refused, RefusesRequest, RestsOn, RestsOnBytes, Tells, TellsImport, in_notation, request_causes, request_refusal, outcome, outcome_of, typed_outcome}
 use Rattle.ic_import.specs.Placed.{first_outside}
 use Rattle.ic_import.specs.Records.{Field, first_no_text}
 use Rattle.ic_import.specs.Typed.{Blocked, typed}
+use Rattle.ic_book.specs.declared.error.BookError.{BookError}
 use Rattle.ic_import.specs.declared.error.ImportError.{ImportError}
 use Rattle.ic_import.specs.declared.error.ImportError.TheVariants as errors
 use Rattle.ic_import.proofs.PlainTyping.{all_typed}
@@ -93,17 +95,17 @@ module _ (t : Target) (book : Book) (plain : IsPlainBook book) (some : 0 < lengt
       at_text None None is e = not_typed (typed 0 (request_of t).at fields (in_notation t.locale t.language book)) (all is) e
 
 pub never_refuses : (t : Target) (book left : Book) (r : Result (ℕ × ℕ) ImportError) (before now : Option (List ℕ)) → IsPlainBook book → 0 < length book.sheets
-    → (RestsOnBytes r → RestsOn (request_of t) book left r before now) → ((e : _) → r ≡ Err (errors.Book e) → ⊥) → NeverRefuses r
-never_refuses t book left (Ok counts) before now plain some rests no = tt
-never_refuses t book left (Err (errors.Book e)) before now plain some rests no = no e refl
-never_refuses t book left (Err (errors.Blocked i j why)) before now plain some rests no =
+    → (RestsOnBytes r → RestsOn (request_of t) book left r before now) → ((e : BookError) → r ≡ Err (errors.Book e) → ⊥) → NeverRefuses r
+never_refuses t book left (Ok counts) before now plain some rests unasked = tt
+never_refuses t book left (Err (errors.Book e)) before now plain some rests unasked = unasked e refl
+never_refuses t book left (Err (errors.Blocked i j why)) before now plain some rests unasked =
     let told = (rests tt).tells in
     not_refused t book plain some i j told.0 _ told.2
-never_refuses t book left (Err (errors.NotUtf8 i j)) before now plain some rests no = tt
-never_refuses t book left (Err (errors.OutsideSheet i j)) before now plain some rests no = tt
-never_refuses t book left (Err errors.ReadFault) before now plain some rests no = tt
-never_refuses t book left (Err errors.TooManyTurns) before now plain some rests no = tt
-never_refuses t book left (Err errors.OutOfMemory) before now plain some rests no = tt
+never_refuses t book left (Err (errors.NotUtf8 i j)) before now plain some rests unasked = tt
+never_refuses t book left (Err (errors.OutsideSheet i j)) before now plain some rests unasked = tt
+never_refuses t book left (Err errors.ReadFault) before now plain some rests unasked = tt
+never_refuses t book left (Err errors.TooManyTurns) before now plain some rests unasked = tt
+never_refuses t book left (Err errors.OutOfMemory) before now plain some rests unasked = tt
 
 -- The texts. ----
 
@@ -126,13 +128,21 @@ line_told a b c d e f g new i j name o p q r s t u v =
     ∙ ap (λ x. x ++ line_feed ∷ []) (u ∙ ap (λ x. x ++ name) (t ∙ ap (λ x. x ++ tab ∷ []) (s ∙ ap (λ x. x ++ decimal j) (r ∙ ap (λ x. x ++ tab ∷ []) (q ∙ ap (λ x. x ++ decimal i) (p ∙ ap (λ x. x ++ chars (codes "refused\t")) o ∙ refused_chars))))))
     ∙ simp append_assoc
 
+-- the text of a reply that is one
+abbrev text_in : List ReplyField → List ℕ
+text_in (TextField text ∷ fields) = text
+text_in fields = []
+
+abbrev step_text : Stepped Book → List ℕ
+step_text (Ok done) = text_in done.1
+step_text (Err refusal) = []
+
 -- the markup of the first sheet
 read_first : (book : Book) (o : Option Sheet) (left : Book) (text : List ℕ)
     → (let read : Stepped Book = found_or InvalidSheet (option_map (λ sheet. unless_refused [] book (text_field (sheet_markup book sheet))) o) in read ≡ Ok (left, text_field text))
     → text ≡ option_map_or (sheet_markup book) o []
 read_first book None left text e = cc
-read_first book (Some sheet) left text e =
-    let same : text_field (sheet_markup book sheet) ≡ text_field text = cc in cc
+read_first book (Some sheet) left text e = sym (ap step_text e)
 
 pub markup_told : (book left : Book) (text : List ℕ) → markup_step 0 book ≡ Ok (left, text_field text) → text ≡ first_markup book
 unfolding markup_step
@@ -172,7 +182,7 @@ told_status r s (inr is) (inr at) = absurd (omega arith)
 
 -- The text of an answer. ----
 
-module _ {A E F : Type 0} (book : Book) (given : Result (String Global) E) (made : Result (String Global) F) (same : IfOk made (λ m. given ≡ Ok m)) where
+module _ {E F : Type 0} (book : Book) (given : Result (String Global) E) (made : Result (String Global) F) (same : IfOk made (λ m. given ≡ Ok m)) where
   told_by : (P : List ℕ → Type 0) → IfOk given (λ t. P (chars (string_bytes t))) → IfOk made (λ t. P (chars (string_bytes t)))
   told_by P h = by made same
     where
@@ -180,5 +190,85 @@ module _ {A E F : Type 0} (book : Book) (given : Result (String Global) E) (made
       by (Ok x) is = rw is at h
       by (Err e) is = tt
 
-  pub table_told : (answer : Result A ImportError) (counts : A) → answer ≡ Ok counts → IfOk given (λ t. chars (string_bytes t) ≡ first_markup book ++ line_feed ∷ []) → IfOk made (λ t. SaysOf answer book (status_of answer) (chars (string_bytes t)))
-  table_told answer counts is h = subst (λ (a : Result A ImportError). IfOk made (λ t. SaysOf a book (status_of a) (chars (string_bytes t)))) (sym is) (told_by (λ text. (let zero : ℕ = 0 in zero ≡ 0) × (text ≡ first_markup book ++ line_feed ∷ [])) ?)
+  pub table_told : {A : Type 0} (answer : Result A ImportError) (counts : A) → answer ≡ Ok counts → IfOk given (λ t. chars (string_bytes t) ≡ first_markup book ++ line_feed ∷ []) → IfOk made (λ t. SaysOf answer book (status_of answer) (chars (string_bytes t)))
+  table_told {A} answer counts is h =
+      subst (λ (a : Result A ImportError). IfOk made (λ t. SaysOf a book (status_of a) (chars (string_bytes t)))) (sym is) (told_by (λ text. Says (Leaves book) 0 text) (IfOk-weaker given _ _ (λ t e. (refl, e)) h))
+
+  pub no_text_told : {A : Type 0} (answer : Result A ImportError) (i j : ℕ) → answer ≡ Err (errors.NotUtf8 i j) → IfOk given (λ t. chars (string_bytes t) ≡ refused_line i j (chars (codes "NotUtf8")))
+      → IfOk made (λ t. SaysOf answer book (status_of answer) (chars (string_bytes t)))
+  no_text_told {A} answer i j is h =
+      subst (λ (a : Result A ImportError). IfOk made (λ t. SaysOf a book (status_of a) (chars (string_bytes t)))) (sym is)
+      (told_by (λ text. Says (NoText i j) 8 text) (IfOk-weaker given _ _ (λ t e. (refl, e ∙ ap (refused_line i j) not_utf8_chars)) h))
+
+  pub outside_told : {A : Type 0} (answer : Result A ImportError) (i j : ℕ) → answer ≡ Err (errors.OutsideSheet i j) → IfOk given (λ t. chars (string_bytes t) ≡ refused_line i j (chars (codes "OutsideSheet")))
+      → IfOk made (λ t. SaysOf answer book (status_of answer) (chars (string_bytes t)))
+  outside_told {A} answer i j is h =
+      subst (λ (a : Result A ImportError). IfOk made (λ t. SaysOf a book (status_of a) (chars (string_bytes t)))) (sym is)
+      (told_by (λ text. Says (Outside i j) 8 text) (IfOk-weaker given _ _ (λ t e. (refl, e ∙ ap (refused_line i j) outside_chars)) h))
+
+-- An import answers no refusal of its request where nothing refuses that. ----
+
+pub not_of_request : {T : Type 0} (refusal : Option Refusal) (r : Result T ImportError) → refusal ≡ None → RefusesRequest refusal r → (e : BookError) → r ≡ Err (errors.Book e) → ⊥
+not_of_request {T} refusal r none refuses e is = let told = subst (RefusesRequest refusal) is refuses in let other : None ≡ Some told.0 = sym none ∙ told.2 in cc
+
+-- Which statuses there are. ----
+
+pub at_3 : {T : Type 0} (r : Result T ImportError) → status_of r ≡ 3 → r ≡ Err errors.ReadFault
+at_3 (Ok counts) e = absurd (omega (arith, e))
+at_3 (Err (errors.Book why)) e = absurd (omega (arith, e))
+at_3 (Err errors.ReadFault) e = refl
+at_3 (Err errors.TooManyTurns) e = absurd (omega (arith, e))
+at_3 (Err (errors.NotUtf8 i j)) e = absurd (omega (arith, e))
+at_3 (Err (errors.OutsideSheet i j)) e = absurd (omega (arith, e))
+at_3 (Err (errors.Blocked i j why)) e = absurd (omega (arith, e))
+at_3 (Err errors.OutOfMemory) e = absurd (omega (arith, e))
+
+pub at_5 : {T : Type 0} (r : Result T ImportError) → status_of r ≡ 5 → r ≡ Err errors.TooManyTurns
+at_5 (Ok counts) e = absurd (omega (arith, e))
+at_5 (Err (errors.Book why)) e = absurd (omega (arith, e))
+at_5 (Err errors.ReadFault) e = absurd (omega (arith, e))
+at_5 (Err errors.TooManyTurns) e = refl
+at_5 (Err (errors.NotUtf8 i j)) e = absurd (omega (arith, e))
+at_5 (Err (errors.OutsideSheet i j)) e = absurd (omega (arith, e))
+at_5 (Err (errors.Blocked i j why)) e = absurd (omega (arith, e))
+at_5 (Err errors.OutOfMemory) e = absurd (omega (arith, e))
+
+-- each but those of reading is one of these
+pub settled : {T : Type 0} (r : Result T ImportError) → r ≢ Err errors.ReadFault → r ≢ Err errors.TooManyTurns → (status_of r ≡ 0) ⊎ ((status_of r ≡ 6) ⊎ (status_of r ≡ 8))
+settled (Ok counts) f t = inl refl
+settled (Err (errors.Book why)) f t = inr (inr refl)
+settled (Err errors.ReadFault) f t = absurd (f refl)
+settled (Err errors.TooManyTurns) f t = absurd (t refl)
+settled (Err (errors.NotUtf8 i j)) f t = inr (inr refl)
+settled (Err (errors.OutsideSheet i j)) f t = inr (inr refl)
+settled (Err (errors.Blocked i j why)) f t = inr (inr refl)
+settled (Err errors.OutOfMemory) f t = inr (inl refl)
+
+-- a number that is none of these
+abbrev Fits : ℕ → Type 0
+Fits n = (n ≤ 8) × ((n ≢ 7) × ((n ≢ 1) × (n ≢ 2)))
+
+pub statuses : {T : Type 0} (r : Result T ImportError) → Fits (status_of r)
+statuses (Ok counts) = (omega arith, (omega arith, (omega arith, omega arith)))
+statuses (Err (errors.Book why)) = (omega arith, (omega arith, (omega arith, omega arith)))
+statuses (Err errors.ReadFault) = (omega arith, (omega arith, (omega arith, omega arith)))
+statuses (Err errors.TooManyTurns) = (omega arith, (omega arith, (omega arith, omega arith)))
+statuses (Err (errors.NotUtf8 i j)) = (omega arith, (omega arith, (omega arith, omega arith)))
+statuses (Err (errors.OutsideSheet i j)) = (omega arith, (omega arith, (omega arith, omega arith)))
+statuses (Err (errors.Blocked i j why)) = (omega arith, (omega arith, (omega arith, omega arith)))
+statuses (Err errors.OutOfMemory) = (omega arith, (omega arith, (omega arith, omega arith)))
+
+pub all_statuses : {T : Type 0} (r : Result T ImportError) (n : ℕ) → (n ≡ 4) ⊎ ((n ≡ 6) ⊎ (n ≡ status_of r)) → Fits n
+all_statuses r n (inl e) = rw e (omega arith, (omega arith, (omega arith, omega arith)))
+all_statuses r n (inr (inl e)) = rw e (omega arith, (omega arith, (omega arith, omega arith)))
+all_statuses r n (inr (inr e)) = rw e (statuses r)
+
+pub told_as : (n s k : ℕ) → (k ≡ 3) ⊎ (k ≡ 5) → (n ≡ 4) ⊎ ((n ≡ 6) ⊎ (n ≡ s)) → n ≡ k → s ≡ k
+told_as n s k at (inl e) is = absurd (elim at [ inl h ↦ omega (arith, h) | inr h ↦ omega (arith, h) ])
+told_as n s k at (inr (inl e)) is = absurd (elim at [ inl h ↦ omega (arith, h) | inr h ↦ omega (arith, h) ])
+told_as n s k at (inr (inr e)) is = sym e ∙ is
+
+pub at_end : (n s : ℕ) → (n ≡ 4) ⊎ ((n ≡ 6) ⊎ (n ≡ s)) → (n ≡ 4 → ⊥) → (s ≡ 0) ⊎ ((s ≡ 6) ⊎ (s ≡ 8)) → (n ≡ 0) ⊎ ((n ≡ 6) ⊎ (n ≡ 8))
+at_end n s (inl e) quiet h = absurd (quiet e)
+at_end n s (inr (inl e)) quiet h = inr (inl e)
+at_end n s (inr (inr e)) quiet h = rw e h

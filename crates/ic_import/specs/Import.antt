@@ -1,5 +1,5 @@
 -- What an import is asked for, what it leaves, and what each of its answers tells.
-use Rattle.std.specs.Prelude.{◌≡◌, ℕ, List, [], ◌∷◌, not, Option, Some, None, is_none, length, Result, Ok, Err, IfErr}
+use Rattle.std.specs.Prelude.{◌≡◌, ℕ, List, [], ◌∷◌, true, false, not, Option, Some, None, IsSome, is_none, length, Result, Ok, Err, IfErr}
 use Rattle.std.specs.Option.{option_map_or}
 use Rattle.ic_laws.specs.Character.{comma}
 use Rattle.ic_laws.specs.CoreBook.{CellPlace}
@@ -39,6 +39,14 @@ request_causes request book =
 
 abbrev pub request_refusal : Request → Book → Option Refusal
 request_refusal request book = first_refusal (request_causes request book)
+
+-- a request that nothing refuses
+pub record IsMet (request : Request) (book : Book) : Type 0 where
+  pub sheet : lacks_sheet book request.sheet ≡ false
+  pub row : is_row request.at.0 ≡ true
+  pub column : is_column request.at.1 ≡ true
+  pub locale : IsSome (locale_of book.tables request.locale)
+  pub language : IsSome (language_of book.tables request.language)
 
 -- a request is refused exactly by what refuses it, and before all else
 abbrev pub RefusesRequest : {T : Type 0} → Option Refusal → Result T ImportError → Type 0
@@ -133,6 +141,13 @@ IsOfReading errors.ReadFault = Unit {0}
 IsOfReading errors.TooManyTurns = Unit {0}
 IsOfReading errors.OutOfMemory = Unit {0}
 IsOfReading e = ⊥
+
+-- one of bytes that were read
+abbrev pub IsOfBytes : ImportError → Type 0
+IsOfBytes (errors.Book e) = ⊥
+IsOfBytes errors.ReadFault = ⊥
+IsOfBytes errors.TooManyTurns = ⊥
+IsOfBytes e = Unit {0}
 
 -- an error of a look at all fields: the first that is no text; where all are, the first that is outside; or want of memory
 abbrev pub TellsWrong : CellPlace → List Field → ImportError → Type 0

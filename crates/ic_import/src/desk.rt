@@ -154,7 +154,7 @@ fn import_into<'a, S: Source, K: Sink>(
     requires tables { tables.now ≡ model.old.book.tables }
     requires known { IsNone (target_refusal (target asked.now) tables.now) }
     requires plain { IsPlainBook (whole_of model.old.book) }
-    requires some { 0 < length model.old.book.sheets }
+    requires some { 0 < length (whole_of model.old.book).sheets }
     ensures written { (result ≡ 0) ⊎ (result ≡ 8)
         → IfTold (S.left source.old) (S.left source.new) (Writes (target asked.now)
         (whole_of model.old.book) result (K.written sink.old) (K.written sink.new)) }

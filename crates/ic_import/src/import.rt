@@ -5,9 +5,10 @@ ghost use Rattle.ic_lines.specs.Bytes.{HasFault, IfTold, TakesFirst};
 ghost use Rattle.ic_lines.specs.Reading.{most_turns};
 ghost use Rattle.ic_tables.specs.Tables.{HasGoodFormats, language_of, locale_of};
 ghost use Rattle.ic_tree.specs.Shown.{list_separator};
+ghost use Rattle.ic_book.specs.Book.{IsValidBook};
 ghost use Rattle.ic_book.specs.Refused.{TellsOnly};
 ghost use Rattle.ic_book.specs.Whole.{whole_of};
-ghost use Rattle.ic_import.specs.Import.{BlocksRightly, IsOfReading, IsOfRequest, RefusesRequest, RestsOn, RestsOnBytes, TellsTyping, TellsWrong, in_notation, request, request_refusal, separator_of};
+ghost use Rattle.ic_import.specs.Import.{BlocksRightly, IsMet, IsOfBytes, IsOfReading, IsOfRequest, RefusesRequest, RestsOn, RestsOnBytes, TellsImport, TellsTyping, TellsWrong, in_notation, request, request_refusal, separator_of};
 ghost use Rattle.ic_import.specs.Records.{all_fields, records_of};
 ghost use Rattle.ic_import.specs.Typed.{Typable};
 
@@ -81,8 +82,7 @@ pub fn import_csv<'a, S: Source>(
         Err(e) => return Err(ImportError::Book(e)),
     };
     let bytes = all_bytes(alloc, source)?;
-    look_over(alloc, bytes.as_slice(), separator, at)?;
-    put_in(
+    import_bytes(
         alloc,
         model,
         tables,
@@ -90,6 +90,41 @@ pub fn import_csv<'a, S: Source>(
         locale_id,
         language_id,
         bytes.as_slice(),
+        separator,
+    )
+}
+
+/// The same of all bytes of a source, for a request that nothing refuses, with what parts its fields.
+fn import_bytes<'a>(
+    alloc: Global,
+    model: &mut Model<'a>,
+    tables: &'a Tables,
+    at: &CellReferenceIndex,
+    locale_id: &str,
+    language_id: &str,
+    bytes: &[u8],
+    separator: u8,
+) -> Result<(u64, u64), ImportError>
+    requires tables { tables.now ≡ model.old.book.tables }
+    requires met { IsMet (request at.now (chars locale_id.now) (chars language_id.now))
+        (whole_of model.old.book) }
+    requires separator { separator ≡ separator_of tables.now (chars locale_id.now) }
+    ensures told { TellsImport (request at.now (chars locale_id.now) (chars language_id.now))
+        (whole_of model.old.book) bytes.now result (whole_of model.new.book) }
+    ensures kept { OnErr result (model.new ≡ model.old) }
+    ensures tables { model.new.book.tables ≡ model.old.book.tables }
+    ensures which { IfErr result IsOfBytes }
+    ensures blocked { IfErr result BlocksRightly }
+{
+    look_over(alloc, bytes, separator, at)?;
+    put_in(
+        alloc,
+        model,
+        tables,
+        at,
+        locale_id,
+        language_id,
+        bytes,
         separator,
     )
 }
@@ -126,12 +161,12 @@ fn asked(
     Ok(separator_in(tables, locale))
 }
 
-/// What parts lists in a locale of the tables: a comma or a semicolon.
+/// What parts lists in a locale of the tables: a semicolon where decimals are by a comma, and a comma elsewhere.
 fn separator_in(tables: &Tables, locale: &Locale) -> u8
     requires { HasGoodFormats tables.now locale.now }
     ensures { result ≡ list_separator locale.now }
 {
-    if locale.numbers.symbols.list.is(";") {
+    if locale.numbers.symbols.decimal.is(",") {
         b';'
     } else {
         b','
@@ -208,10 +243,8 @@ fn put_in<'a>(
     separator: u8,
 ) -> Result<(u64, u64), ImportError>
     requires tables { tables.now ≡ model.old.book.tables }
-    requires row { is_row at.now.row ≡ true }
-    requires column { is_column at.now.column ≡ true }
-    requires locale { IsSome (locale_of tables.now (chars locale_id.now)) }
-    requires language { IsSome (language_of tables.now (chars language_id.now)) }
+    requires met { IsMet (request at.now (chars locale_id.now) (chars language_id.now))
+        (whole_of model.old.book) }
     requires typable { Typable (at.now.row, at.now.column)
         (all_fields (records_of separator bytes.now)) }
     ensures told { TellsTyping
@@ -239,6 +272,7 @@ fn copied<'a>(
 ) -> Result<Model<'a>, OutOfMemory>
     requires tables { tables.now ≡ model.now.book.tables }
     requires language { chars language_id.now ≡ model.now.book.language }
+    requires valid { IsValidBook model.now.book }
     ensures { IfOk result (λ copy. whole_of copy.book ≡ whole_of model.now.book) }
 {
     let Ok(workbook) = model.workbook() else {
@@ -258,14 +292,36 @@ fn switch(model: &mut Model<'_>, locale_id: &str, language_id: &str)
     ensures { whole_of model.new.book ≡ in_notation (chars locale_id.now) (chars language_id.now)
         (whole_of model.old.book) }
 {
-    if model.set_locale(locale_id).is_err() || model.set_language(language_id).is_err() {
+    put_locale(model, locale_id);
+    put_language(model, language_id);
+}
+
+/// Puts a locale in force that the tables have.
+fn put_locale(model: &mut Model<'_>, id: &str)
+    requires { IsSome (locale_of model.old.book.tables (chars id.now)) }
+    ensures { whole_of model.new.book
+        ≡ in_notation (chars id.now) model.old.book.language (whole_of model.old.book) }
+{
+    if model.set_locale(id).is_err() {
+        unreachable!()
+    }
+}
+
+/// Puts a language in force that the tables have.
+fn put_language(model: &mut Model<'_>, id: &str)
+    requires { IsSome (language_of model.old.book.tables (chars id.now)) }
+    ensures { whole_of model.new.book
+        ≡ in_notation model.old.book.locale (chars id.now) (whole_of model.old.book) }
+{
+    if model.set_language(id).is_err() {
         unreachable!()
     }
 }
 
 /// The id of the locale in force. Only memory can be missing.
 fn own_locale(model: &Model<'_>) -> Result<String, OutOfMemory>
-    ensures { IfOk result (λ id. chars (string_bytes id) ≡ model.now.book.locale) }
+    ensures own { IfOk result (λ id. chars (string_bytes id) ≡ model.now.book.locale) }
+    ensures valid { IsValidBook model.now.book }
 {
     match model.get_locale() {
         Ok(id) => Ok(id),

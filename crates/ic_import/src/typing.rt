@@ -70,7 +70,6 @@ fn type_record(
     ensures typed { OnOk result (typed at.now.sheet (at.now.row, at.now.column)
         (fields_in at_record 1 (fields_of fields.now)) (whole_of model.old.book)
         ≡ Ok (whole_of model.new.book)) }
-    ensures few { length (fields_of fields.now) ≤ 16384 }
     ensures blocked { IfErr result (TellsBlocked (typed at.now.sheet (at.now.row, at.now.column)
         (fields_in at_record 1 (fields_of fields.now)) (whole_of model.old.book))) }
 {
