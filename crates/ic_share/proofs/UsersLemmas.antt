@@ -12,7 +12,6 @@ use Rattle.ic_commands.specs.Answered.{DoesLine}
 use Rattle.std.specs.Prelude.{◌≢◌, length, nat_eq, Result, encode_utf8_all}
 use Rattle.ic_laws.specs.CoreStep.{core_step}
 use Rattle.ic_laws.specs.Lines.{unescaped}
-use Rattle.ic_lines.specs.Reading.{has_line_feed}
 use Rattle.std.specs.FinMap as finite
 use Rattle.std.specs.Cmp.Lexicographic.{slice_cmp}
 use Rattle.std.specs.Ordering.{nat_cmp}
@@ -84,10 +83,6 @@ language_put id old new (Err e) known h = absurd (refused (refusal_of e) h)
     refused (Some refusal) h = subst IsOkStep (sym (step_known (whole_of old.book) id known) ∙ h.0) tt
 
 -- the empty line is no command
-pub no_feed : has_line_feed (chars []) ≡ false
-unfolding chars
-no_feed = refl
-
 no_line : chars [] ≡ []
 unfolding chars
 no_line = refl

@@ -1,10 +1,8 @@
 //! Whose a line is, and which command line they sent.
-ghost use Rattle.std.specs.Prelude.{◌≡◌, IfOk, chars, false, option_map};
-ghost use Rattle.ic_lines.specs.Reading.{has_line_feed};
+ghost use Rattle.std.specs.Prelude.{◌≡◌, IfOk, chars, option_map};
 ghost use Rattle.ic_share.specs.Users.{parts_of, user_of};
 
-use ic_laws::{OutOfMemory, Text};
-use ic_lines::Line;
+use ic_laws::OutOfMemory;
 use ic_words::{WordText, text_of};
 use memchr::memchr;
 use std::alloc::Global;
@@ -29,15 +27,4 @@ pub fn user_of<'l>(alloc: Global, word: &'l str) -> Result<Option<WordText<'l>>,
         return Ok(None);
     }
     text_of(alloc, word)
-}
-
-/// A part of a line as a line.
-pub fn line_of(alloc: Global, text: &str) -> Result<Line, OutOfMemory>
-    requires { has_line_feed (chars text.now) ≡ false }
-    ensures { IfOk result (λ line. line ≡ chars text.now) }
-{
-    match Line::new(Text::from(String::from_str(alloc, text)?)) {
-        Some(line) => Ok(line),
-        None => unreachable!(),
-    }
 }

@@ -13,11 +13,11 @@ ghost use Rattle.ic_share.specs.Share.{DoesShared, IsKnown, shared_by};
 ghost use Rattle.ic_commands.specs.Answered.{DoesLine};
 ghost use Rattle.ic_share.specs.Shared.{in_language, language_chosen, languages_left, sent_step};
 
-use crate::line::{line_of, parts_of, user_of};
+use crate::line::{parts_of, user_of};
 use ic_book::{BookError, Model};
-use ic_commands::reply_in;
+use ic_commands::reply_to_text;
 use ic_laws::OutOfMemory;
-use ic_laws::scan::first_char;
+use ic_laws::scan::{first_char, same_text};
 use ic_lines::Line;
 use std::alloc::Global;
 use std::collections::BTreeMap;
@@ -95,8 +95,7 @@ impl Users {
         let Some(user) = user_of(alloc, word)? else {
             return bad_reply(alloc, model, last);
         };
-        let command = line_of(alloc, command)?;
-        self.reply_for(alloc, model, user.as_str(), &command, last)
+        self.reply_for(alloc, model, user.as_str(), command, last)
     }
 
     /// The same for a command line of a user.
@@ -105,17 +104,17 @@ impl Users {
         alloc: Global,
         model: &mut Model<'_>,
         user: &str,
-        command: &Line,
+        command: &str,
         last: String,
     ) -> Result<String, OutOfMemory>
         requires own { self.old.own ≡ model.old.book.language }
         requires known { IsKnown (shared_by self.old model.old.book) }
         ensures left { OnOk result (shared_by self.new model.new.book
             ≡ (sent_step (shared_by self.old model.old.book)
-            (Some (record { user = chars user.now; command = command.now }))).0) }
+            (Some (record { user = chars user.now; command = chars command.now }))).0) }
         ensures reply { IfOk result (λ reply. string_bytes reply
             ≡ reply_bytes (sent_step (shared_by self.old model.old.book)
-            (Some (record { user = chars user.now; command = command.now }))).1) }
+            (Some (record { user = chars user.now; command = chars command.now }))).1) }
         ensures own { self.new.own ≡ self.old.own }
         ensures languages { OnErr result (self.new.languages ≡ self.old.languages) }
         ensures err { OnErr result (whole_of model.new.book ≡ whole_of model.old.book) }
@@ -132,21 +131,21 @@ impl Users {
         alloc: Global,
         model: &mut Model<'_>,
         user: &str,
-        command: &Line,
+        command: &str,
         last: String,
     ) -> Result<String, OutOfMemory>
-        ensures does { IfOk result (λ reply. DoesLine command.now model.old model.new
+        ensures does { IfOk result (λ reply. DoesLine (chars command.now) model.old model.new
             (string_bytes reply)) }
         ensures languages { OnOk result (self.new.languages ≡ languages_left (chars user.now)
-            (command_in (english_errors (whole_of model.old.book)) commands command.now)
-            (line_step commands (whole_of model.old.book) command.now).1 self.old.languages) }
+            (command_in (english_errors (whole_of model.old.book)) commands (chars command.now))
+            (line_step commands (whole_of model.old.book) (chars command.now)).1 self.old.languages) }
         ensures own { self.new.own ≡ self.old.own }
         ensures stays { OnErr result (self.new.languages ≡ self.old.languages) }
         ensures err { OnErr result (in_language [] (whole_of model.new.book)
             ≡ in_language [] (whole_of model.old.book)) }
     {
-        let reply = reply_in(alloc, model, command, last)?;
-        if chooses_language(command.text().as_str()) && is_ok(reply.as_str()) {
+        let reply = reply_to_text(alloc, model, command, last)?;
+        if chooses_language(command) && is_ok(reply.as_str()) {
             self.choose(alloc, user, language_in(model)?)?;
         }
         Ok(reply)
@@ -173,7 +172,10 @@ fn chooses_language(command: &str) -> bool
         (command_in english commands (chars command.now))
         (λ c. IsSome (language_chosen (Some c))) }
 {
-    command.starts_with("set_language\t")
+    match parts_of(command) {
+        Some((name, _)) => same_text(name, "set_language"),
+        None => false,
+    }
 }
 
 /// Whether a reply tells no refusal.
@@ -210,6 +212,5 @@ fn bad_reply(alloc: Global, model: &mut Model<'_>, last: String) -> Result<Strin
     ensures reply { IfOk result (λ reply. string_bytes reply ≡ reply_bytes (Err BadLine)) }
     ensures left { whole_of model.new.book ≡ whole_of model.old.book }
 {
-    let empty = line_of(alloc, "")?;
-    reply_in(alloc, model, &empty, last)
+    reply_to_text(alloc, model, "", last)
 }
