@@ -1,11 +1,10 @@
 -- What a run of the lines of users is, by the machine of shared books.
-use Rattle.std.proofs.Common.{◌≡◌, ℕ, ◌+◌, ◌⊎◌, List, [], ◌∷◌, ◌++◌, take, Option, Result, Ok, Err, IfErr, ap, sym, subst, refl, ◌∙◌, inl, inr, arith, append-nil}
+use Rattle.std.proofs.Common.{◌≡◌, ℕ, ◌⊎◌, List, [], ◌∷◌, Option, Result, Ok, Err, IfOk, OnOk, ap, sym, subst, refl, ◌∙◌, inl, inr}
 use Rattle.std.specs.FinMap as finite
 use Rattle.ic_laws.specs.Lines.{texts_of}
 use Rattle.ic_lines.specs.Bytes.{IfTold}
 use Rattle.ic_lines.specs.declared.error.RunError.{RunError}
-use Rattle.ic_lines.specs.declared.error.RunError.TheVariants as errors
-use Rattle.ic_lines.proofs.ToldLemmas.{IfTold-same, IfTold-weaker}
+use Rattle.ic_lines.proofs.ToldLemmas.{IfTold-weaker}
 use Rattle.ic_machine.specs.Book as machine
 use Rattle.ic_machine.specs.Run.{after}
 use Rattle.ic_book.specs.Book.{Book, ModelState}
@@ -15,8 +14,8 @@ use Rattle.ic_run.specs.Run.{AppendsReplies, HasAnswered, HasPartlyAnswered, Has
 use Rattle.ic_run.proofs.RefinedRuns.{all_appended, has_answered, has_partly_answered, left_after}
 use Rattle.ic_run.proofs.RunLemmas.{leaves_weaker}
 use Rattle.ic_share.specs.Shared.{SharedBook, share_machine, shared_from}
-use Rattle.ic_share.specs.Share.{AppendsShared, AppendsSharedFrom, DoesShared, IsBookOf, LeavesShared, LeavesSharedFrom, SharesAll, SharesAnswered, SharesPartly, UsersState, shared_by}
-use Rattle.ic_share.proofs.KnownLemmas.{own_stays}
+use Rattle.ic_share.specs.Share.{AppendsShared, AppendsSharedFrom, DoesShared, IsBookOf, IsKnown, LeavesShared, LeavesSharedFrom, SharesAll, SharesAnswered, SharesPartly, UsersState, shared_by}
+use Rattle.ic_share.proofs.KnownLemmas.{own_stays, shared_stays_known}
 
 -- what a line does to the users and the book
 abbrev pub Does : List ℕ → UsersState × ModelState → UsersState × ModelState → List ℕ → Type 0
@@ -49,6 +48,15 @@ lines_language (line ∷ lines) old new told did = lines_language lines did.0 ne
 
 pub language_stays : (old new : UsersState × ModelState) → AnswersSome Does Stays old new → new.1.book.language ≡ old.1.book.language
 language_stays old new some = ap (λ (b : machine.Book). b.language) (same_whole some.mid new some.stood) ∙ lines_language some.lines old some.mid some.told some.answered
+
+-- A line that was answered can be followed by another one. ----
+
+pub ready_after : {T E : Type 0} (r : Result T E) (bytes : T → List ℕ) (line : List ℕ) (users new : UsersState) (book left : Book) → users.own ≡ book.language → IsKnown (shared_by users book)
+    → IfOk r (λ x. DoesShared line (shared_by users book) (shared_by new left) (bytes x)) → new.own ≡ users.own → OnOk r ((new.own ≡ left.language) × IsKnown (shared_by new left))
+ready_after (Ok x) bytes line users new book left own known does same =
+    let stays : left.language ≡ book.language = ap (λ (s : SharedBook). s.book.language) does.left ∙ own_stays (shared_by users book) line in
+    (same ∙ own ∙ sym stays, subst IsKnown (sym does.left) (shared_stays_known (shared_by users book) line known))
+ready_after (Err e) bytes line users new book left own known does same = tt
 
 -- From users none of whom chose a language. ----
 
@@ -88,15 +96,6 @@ module _ (old : UsersState × ModelState) (none : old.0.languages ≡ finite.emp
   leaves_shared e new bytes rest before now h =
       leaves_weaker (AnswersFirst Does Stays old new (texts_of bytes) before now) (AnswersPartly Does old new (texts_of bytes) before now) (SharesAnswered old.1.book new.1.book (texts_of bytes) before now)
       (SharesPartly old.1.book new.1.book (texts_of bytes) before now) e bytes rest (λ n p. shares_answered new (texts_of bytes) before now n p) (λ n p. shares_partly new (texts_of bytes) before now n p) h
-
--- where memory ran out before the first read
-pub leaves_at_start : (book : Book) (source sink : Option (List ℕ)) → IfTold source source (λ bytes rest. LeavesShared errors.OutOfMemory book book bytes rest sink sink)
-leaves_at_start book source sink =
-    IfTold-same source (λ bytes rest. LeavesShared errors.OutOfMemory book book bytes rest sink sink)
-    (λ bytes. (0, inr (omega arith), record {
-      within = omega arith;
-      answered = record { left = refl; told = IfTold-same sink (HasReplied share_machine (shared_from (whole_of book)) 0 (texts_of bytes)) (λ x. sym (append-nil x)) };
-    }))
 
 -- Of a new book. ----
 
