@@ -7,7 +7,7 @@ all that come after it (with --most=N only so many, at even distances); each lim
 write fails once, in pieces of 1, 7 and 4,096 bytes; each beginning of the input; inputs and outputs that are closed, full, folders or
 left; words that are none. A shared book ends as it does unharmed, or with the status for the harm after the first of the same
 replies, whole, and after a write that failed after exactly what was taken. An import ends as it does unharmed, or with that status
-and nothing written, or exactly what was taken. The status is 1 where some run ends otherwise. It takes two minutes."""
+and nothing written, or exactly what was taken. The status is 1 where some run ends otherwise. Each of both takes two minutes."""
 import os
 import signal
 import subprocess
