@@ -69,6 +69,10 @@ SaysOf (Err (errors.NotUtf8 at_record at_field)) book status text = Says (NoText
 SaysOf (Err (errors.OutsideSheet at_record at_field)) book status text = Says (Outside at_record at_field) status text
 SaysOf (Err e) book status text = ⊥
 
+-- an answer that is an error
+abbrev pub failed : ImportError → Result (ℕ × ℕ) ImportError
+failed e = Err e
+
 -- the status of an answer where neither the request nor a field is refused
 abbrev pub status_of : {T : Type 0} → Result T ImportError → ℕ
 status_of (Ok counts) = 0

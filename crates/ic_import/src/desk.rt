@@ -3,12 +3,13 @@ ghost use Rattle.std.specs.Prelude.{◌≡◌, ◌≢◌, ◌⊎◌, ◌↔◌, 
 ghost use Rattle.std.specs.Fmt.{decimal};
 ghost use Rattle.ic_laws.specs.Character.{line_feed};
 ghost use Rattle.ic_lines.specs.Bytes.{AppendsFront, HasFault, IfTold};
+ghost use Rattle.ic_machine.specs.Book.{Book};
 ghost use Rattle.ic_book.specs.Whole.{whole_of};
 ghost use Rattle.ic_run.specs.Core.{IsPlainBook};
 ghost use Rattle.ic_run.specs.Desk.{start_refusal, texts};
 ghost use Rattle.ic_run.specs.Make.{made_setting};
 ghost use Rattle.ic_run.specs.Translate.{target_refusal};
-ghost use Rattle.ic_import.specs.Desk.{HasWritten, HasWrittenPart, NeverRefuses, SaysOf, Writes, WritesPart, first_markup, refused_line, status_of, target, target_of};
+ghost use Rattle.ic_import.specs.Desk.{HasWritten, HasWrittenPart, NeverRefuses, SaysOf, Writes, WritesPart, failed, first_markup, refused_line, status_of, target, target_of};
 
 use crate::ImportError;
 use crate::asked::{Asked, asked_for};
@@ -236,23 +237,32 @@ fn told(
 {
     match answer {
         Ok(_) => or_no_memory(table(model)),
-        Err(
-            ImportError::NotUtf8 {
-                at_record,
-                at_field,
-            },
-        ) => or_no_memory(refused(alloc, *at_record, *at_field, "NotUtf8")),
-        Err(
-            ImportError::OutsideSheet {
-                at_record,
-                at_field,
-            },
-        ) => or_no_memory(refused(alloc, *at_record, *at_field, "OutsideSheet")),
-        Err(ImportError::ReadFault) => Err(3),
-        Err(ImportError::TooManyTurns) => Err(5),
-        Err(ImportError::OutOfMemory) => Err(6),
-        Err(ImportError::Book(_)) => unreachable!(),
-        Err(ImportError::Blocked { .. }) => unreachable!(),
+        Err(e) => told_error(alloc, e),
+    }
+}
+
+/// The same for an error.
+fn told_error(alloc: Global, e: &ImportError) -> Result<String, u8>
+    requires { NeverRefuses (failed e.now) }
+    ensures text { (left : Book) → IfOk result (λ text. SaysOf (failed e.now) left
+        (status_of (failed e.now)) (chars (string_bytes text))) }
+    ensures none { IfErr result (λ status. (status ≡ 6)
+        ⊎ ((status ≡ status_of (failed e.now)) × ((status ≡ 3) ⊎ (status ≡ 5)))) }
+{
+    match e {
+        ImportError::NotUtf8 {
+            at_record,
+            at_field,
+        } => or_no_memory(refused(alloc, *at_record, *at_field, "NotUtf8")),
+        ImportError::OutsideSheet {
+            at_record,
+            at_field,
+        } => or_no_memory(refused(alloc, *at_record, *at_field, "OutsideSheet")),
+        ImportError::ReadFault => Err(3),
+        ImportError::TooManyTurns => Err(5),
+        ImportError::OutOfMemory => Err(6),
+        ImportError::Book(_) => unreachable!(),
+        ImportError::Blocked { .. } => unreachable!(),
     }
 }
 

@@ -1,4 +1,4 @@
-use Rattle.std.proofs.Common.{◌≡◌, ◌<◌, length, arith, subst, sym, ap, ◌∙◌}
+use Rattle.std.proofs.Common.{◌≡◌, subst, ap}
 use Rattle.ic_book.specs.Whole.{whole_of}
 use Rattle.ic_lines.proofs.ToldLemmas.{IfTold-weaker}
 use Rattle.ic_machine.specs.Book.{Book}
@@ -31,11 +31,5 @@ returns-in-Ok-clause-front g c at =
     IfTold-weaker (left c.args.source.now) (left c.import_into-status.new.source) (WritesPart t (whole_of book) (written c.args.sink.now) (written c.import_into-status.new.sink)) (HasWrittenPart t tables (written c.args.sink.now) (written c.import_into-status.new.sink))
     (λ bytes rest w. (book.metadata.created, subst (λ (b : Book). WritesPart t b (written c.args.sink.now) (written c.import_into-status.new.sink) bytes rest) is w)) (c.import_into-status.ensures.front at)
 
-pub import_into-requires-clause-tables : goal.import_into-requires-clause-tables
-import_into-requires-clause-tables g c = sym (ap (λ b. b.tables) c.in-Ok.ensures.start)
-
-pub import_into-requires-clause-plain : goal.import_into-requires-clause-plain
-import_into-requires-clause-plain g c = start_plain c.in-Ok.model.book _ _ _ _ c.in-Ok.model.book.metadata.created c.args.tables.now c.in-Ok.ensures.start
-
-pub import_into-requires-clause-some : goal.import_into-requires-clause-some
-import_into-requires-clause-some g c = subst (λ b. 0 < length (whole_of b).sheets) (sym c.in-Ok.ensures.start) (omega arith)
+pub import_into-status-requires-clause-plain : goal.import_into-status-requires-clause-plain
+import_into-status-requires-clause-plain g c = start_plain c.in-Ok.model.book _ _ _ _ c.in-Ok.model.book.metadata.created c.args.tables.now c.in-Ok.ensures.start
