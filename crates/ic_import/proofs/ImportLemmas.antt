@@ -1,8 +1,8 @@
 -- What refuses a request, how a notation is put in force, and what the parts of an import tell together.
-use Rattle.std.proofs.Common.{◌≡◌, ℕ, ℤ, List, [], ◌∷◌, Bool, true, false, cond, not, Option, Some, None, IsSome, String, Global, option_map, Result, Ok, Err, IfErr, is_err, length, refl, sym, ap, subst, ◌∙◌, inl, inr, chars, string_bytes}
+use Rattle.std.proofs.Common.{◌≡◌, ℕ, ℤ, List, [], ◌∷◌, Bool, true, false, cond, not, Option, Some, None, IsSome, String, Global, option_map, Result, Ok, Err, IfErr, is_err, length, refl, sym, ap, subst, ◌∙◌, inl, inr, string_bytes}
 use Rattle.std.proofs.lemmas.Bool.{not-false}
-use Rattle.std.specs.List.{find, slice_get}
-use Rattle.std.specs.Prelude.{is_none, is_some}
+use Rattle.std.specs.List.{slice_get}
+use Rattle.std.specs.Prelude.{is_none}
 use Rattle.ic_laws.specs.CoreStep as core
 use Rattle.ic_laws.specs.CoreStep.{core_step}
 use Rattle.ic_laws.specs.CoreBook.{CellPlace}
@@ -18,12 +18,15 @@ use Rattle.ic_tables.specs.Tables.{TableSet, language_of, locale_of}
 use Rattle.ic_tables.specs.declared.locale.Locale.{Locale}
 use Rattle.ic_tables.specs.declared.locale.NamedLocale.{NamedLocale}
 use Rattle.ic_tree.proofs.NotationLaws.{knows_language_is, knows_locale_is}
-use Rattle.ic_tree.specs.Shown.{list_separator}
-use Rattle.ic_lines.specs.Bytes.{IfTold}
+use Rattle.ic_tree.proofs.ShownLemmas.{separators_told}
+use Rattle.ic_tree.specs.Shown.{list_of, list_separator}
+use Rattle.ic_tables.specs.Formats.{has_separators}
+use Rattle.std.specs.Prelude.{bytes_eq, codes}
+use Rattle.std.specs.Str.{chars}
 use Rattle.ic_machine.specs.Book as machine
 use Rattle.ic_machine.specs.Book.{Sheet, Stepped, as_core, core_of, found_or, lacks_sheet, notations_in, unless, unless_refused}
-use Rattle.ic_machine.specs.Refusal.{ArrayPart, InvalidColumn, InvalidRow, InvalidSheet, MergedPart, OfCore, Refusal, first_refusal}
-use Rattle.ic_machine.specs.Reply.{Field as Told, TextField, text_field}
+use Rattle.ic_machine.specs.Refusal.{InvalidColumn, InvalidRow, InvalidSheet, OfCore, Refusal, first_refusal}
+use Rattle.ic_machine.specs.Reply.{Field as Told, text_field}
 use Rattle.ic_machine.specs.subjects.Notation.{GetLanguage, GetLocale, SetLanguage, SetLocale, get_language_step, get_locale_step, notation_step, set_language_step, set_locale_step}
 use Rattle.ic_machine.specs.subjects.Reading.{IsEmptyCell, empty_step, reading_step}
 use Rattle.ic_machine.proofs.InsertedStays.{none_holds}
@@ -31,15 +34,15 @@ use Rattle.ic_book.proofs.ExtendLemmas.{none_past, some_within}
 use Rattle.ic_book.proofs.HandedInLemmas.{read_back}
 use Rattle.ic_book.proofs.TakenAgain.{taken_again}
 use Rattle.ic_book.specs.Book.{Book, IsValidBook, ModelState}
-use Rattle.ic_book.specs.Does.{Does, DoesOnly, DoesStep, Made, Never, Refused}
+use Rattle.ic_book.specs.Does.{Does, DoesOnly, Made, Never, Refused}
 use Rattle.ic_book.specs.Fields.{no_fields, string_only}
-use Rattle.ic_book.specs.Refused.{TellsOnly, refusal_of}
+use Rattle.ic_book.specs.Refused.{refusal_of}
 use Rattle.ic_book.specs.Whole.{whole_of}
 use Rattle.ic_book.specs.declared.error.BookError.{BookError}
 use Rattle.ic_book.specs.declared.error.BookError.TheVariants as book
 use Rattle.ic_import.proofs.TypingLemmas.{IsBlock, TypesLike, memory_alone, types_like}
-use Rattle.ic_import.specs.Import.{BlocksRightly, IsBlocking, IsMet, IsOfBytes, IsOfReading, IsOfRequest, IsOfTyping, NoText, Outside, Outcome, Refused as RefusedField, RefusesRequest, Request, RestsOn, RestsOnBytes, Tells, TellsImport, TellsTyping, TellsWrong, Leaves, in_notation, outcome, outcome_of, records_in, request_causes, request_refusal, separator_of, typed_outcome, typing_outcome}
-use Rattle.ic_import.specs.Placed.{Finds, first_outside, number_of}
+use Rattle.ic_import.specs.Import.{BlocksRightly, IsBlocking, IsMet, IsOfBytes, IsOfReading, IsOfRequest, IsOfTyping, NoText, Outside, Outcome, Refused as RefusedField, RefusesRequest, Request, RestsOnBytes, Tells, TellsTyping, TellsWrong, Leaves, in_notation, outcome_of, request_causes, request_refusal, separator_of, typed_outcome, typing_outcome}
+use Rattle.ic_import.specs.Placed.{first_outside, number_of}
 use Rattle.ic_import.specs.Records.{Field, all_fields, first_no_text}
 use Rattle.ic_import.specs.Typed.{Blocked, TellsBlocked, Typable, typed}
 use Rattle.ic_import.specs.declared.error.ImportError.{ImportError}
@@ -165,7 +168,14 @@ module _ {T : Type 0} (fields : T → List Told) (now : ModelState) (sheet : ℕ
       let found = found_done (slice_get (whole_of now.book).sheets sheet) _ (whole_of now.book, fields value) h.done in
       ap not (some_within (whole_of now.book).sheets sheet found.0 found.1)
 
--- what parts lists in the locale that was found
+comma_chars : chars (codes ",") ≡ codes ","
+unfolding chars
+comma_chars = refl
+
+-- what parts lists in a locale, and in the one that was found
+pub separator_told : (l : Locale) (is_comma : Bool) → has_separators l ≡ true → is_comma ≡ bytes_eq l.numbers.symbols.decimal (chars (codes ",")) → list_of is_comma ≡ list_separator l
+separator_told l is_comma good e = ap list_of (e ∙ ap (bytes_eq l.numbers.symbols.decimal) comma_chars) ∙ (separators_told l good).0
+
 pub separator_found : (tables : TableSet) (id : List ℕ) (l : Locale) → option_map (λ n. n.locale) (locale_of tables id) ≡ Some l → list_separator l ≡ separator_of tables id
 separator_found tables id l e = by_found (locale_of tables id) e
   where
@@ -283,11 +293,11 @@ module _ (request : Request) (b : machine.Book) (records : List (List (List ℕ)
       by_error stop (errors.Blocked at_record at_field why) is block told = record {
         told = (
           stop.why,
-          told.1.1,
-          ap (typed_outcome b) is ∙ ap (λ n. RefusedField n stop.field.at_field stop.why) (sym told.0) ∙ ap (λ n. RefusedField at_record n stop.why) (sym told.1.0),
+          told.2,
+          ap (typed_outcome b) is ∙ ap (λ n. RefusedField n stop.field.at_field stop.why) (sym told.0) ∙ ap (λ n. RefusedField at_record n stop.why) (sym told.1),
         );
         which = tt;
-        blocked = blocking why stop.why told.1.1 block;
+        blocked = blocking why stop.why told.2 block;
       }
       by_error stop f is block told = absurd told
 
@@ -343,11 +353,11 @@ typing_of_bytes (Err e) h = absurd h
 
 -- What each kind of error isn't. ----
 
-pub reading_kind : {T : Type 0} (e : ImportError) (refusal : Option Refusal) → IsOfReading e → refusal ≡ None → (RestsOnBytes {T = T} (Err e) → ⊥) × (IsOfRequest e → ⊥) × BlocksRightly e × RefusesRequest {T = T} refusal (Err e)
-reading_kind errors.ReadFault refusal h none = (λ x. x, λ x. x, tt, none)
-reading_kind errors.TooManyTurns refusal h none = (λ x. x, λ x. x, tt, none)
-reading_kind errors.OutOfMemory refusal h none = (λ x. x, λ x. x, tt, none)
-reading_kind e refusal h none = absurd h
+pub reading_kind : (T : Type 0) (e : ImportError) (refusal : Option Refusal) → IsOfReading e → refusal ≡ None → (RestsOnBytes {T = T} (Err e) → ⊥) × (IsOfRequest e → ⊥) × BlocksRightly e × RefusesRequest {T = T} refusal (Err e)
+reading_kind T errors.ReadFault refusal h none = (λ x. x, λ x. x, tt, none)
+reading_kind T errors.TooManyTurns refusal h none = (λ x. x, λ x. x, tt, none)
+reading_kind T errors.OutOfMemory refusal h none = (λ x. x, λ x. x, tt, none)
+reading_kind T e refusal h none = absurd h
 
 pub bytes_kind : {T : Type 0} (r : Result T ImportError) (refusal : Option Refusal) → IfErr r IsOfBytes → refusal ≡ None
     → (r ≡ Err errors.ReadFault → ⊥) × (r ≡ Err errors.TooManyTurns → ⊥) × IfErr r (λ e. IsOfRequest e → ⊥) × RefusesRequest refusal r

@@ -14,7 +14,7 @@ use Rattle.ic_laws.proofs.core.Lists.{length_updated}
 use Rattle.ic_refs.proofs.ColumnLemmas.{number_of_column, number_of_row}
 use Rattle.ic_grid.specs.Arrays.{is_fixed_at}
 use Rattle.ic_grid.specs.Merges.{is_covered}
-use Rattle.ic_machine.specs.Book.{Book, Sheet, Stepped, found_or, lacks_sheet, unless, with_sheet}
+use Rattle.ic_machine.specs.Book.{Book, Sheet, Stepped, found_or, lacks_sheet, unless}
 use Rattle.ic_machine.specs.Content.{held}
 use Rattle.ic_machine.specs.InForce.{typed_in}
 use Rattle.ic_machine.specs.Refusal.{ArrayPart, InvalidColumn, InvalidRow, InvalidSheet, MergedPart, Refusal, first_refusal}
@@ -27,8 +27,8 @@ use Rattle.ic_book.specs.Refused.{refusal_of}
 use Rattle.ic_book.specs.Whole.{whole_of}
 use Rattle.ic_book.specs.declared.error.BookError.{BookError}
 use Rattle.ic_book.specs.declared.error.BookError.TheVariants as book
-use Rattle.ic_import.specs.Placed.{first_outside, is_in_sheet, is_outside, number_of, place_at, place_of}
-use Rattle.ic_import.specs.Records.{Field, fields_in, first_no_text, is_no_text}
+use Rattle.ic_import.specs.Placed.{is_in_sheet, is_outside, number_of, place_of}
+use Rattle.ic_import.specs.Records.{Field, fields_in, is_no_text}
 use Rattle.ic_import.specs.Typed.{Blocked, TellsBlocked, Typable, error_of, go_on, type_field, typed}
 use Rattle.ic_import.specs.declared.error.ImportError.{ImportError}
 use Rattle.ic_import.specs.declared.error.ImportError.TheVariants as errors

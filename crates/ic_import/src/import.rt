@@ -155,9 +155,9 @@ fn asked(
     let Ok(locale) = tables.get_locale(locale_id) else {
         return Err(BookError::InvalidLocale);
     };
-    if tables.get_language(language_id).is_err() {
+    let Ok(_) = tables.get_language(language_id) else {
         return Err(BookError::InvalidLanguage);
-    }
+    };
     Ok(separator_in(tables, locale))
 }
 
@@ -280,8 +280,17 @@ fn copied<'a>(
     };
     match Model::from_workbook(workbook, language_id, tables) {
         Ok(copy) => Ok(copy),
-        Err(BookError::OutOfMemory) => Err(OutOfMemory),
-        Err(_) => unreachable!(),
+        Err(e) => Err(want_of_memory(e)),
+    }
+}
+
+/// That memory ran out, for an error that can be nothing else.
+fn want_of_memory(e: BookError) -> OutOfMemory
+    requires { e ≡ BookError.OutOfMemory }
+{
+    match e {
+        BookError::OutOfMemory => OutOfMemory,
+        _ => unreachable!(),
     }
 }
 

@@ -1,9 +1,9 @@
-use Rattle.std.proofs.Common.{◌≡◌, ◌×◌, ℕ, List, Ok, IsSome, ap, chars, string_bytes, subst, sym, ◌∙◌}
+use Rattle.std.proofs.Common.{◌≡◌, ℕ, List, IsSome, ap, chars, subst, sym, ◌∙◌}
 use Rattle.ic_tables.specs.Tables.{TableSet, language_of, locale_of}
 use Rattle.ic_machine.specs.Book as machine
 use Rattle.ic_book.specs.Whole.{whole_of}
 use Rattle.ic_import.specs.Import.{TellsTyping, in_notation, request}
-use Rattle.ic_import.specs.Records.{Field, all_fields, records_of}
+use Rattle.ic_import.specs.Records.{all_fields, records_of}
 use Rattle.ic_import.specs.Typed.{TellsBlocked, typed}
 use Rattle.ic_import.specs.declared.error.ImportError.TheVariants as errors
 use Rattle.ic_import.proofs.ImportLemmas.{blocked_told, memory_typed, own_language_known, own_locale_known, tables_typed, typed_told}
@@ -49,8 +49,8 @@ returns-in_err-counts-clause-told c =
     let blocked = subst (λ (x : machine.Book). TellsBlocked (typed asked.sheet asked.at (all_fields records) x) e) switched c.in_err-counts.ensures.blocked in
     result_as c.from_residual-in_err-counts.result e (λ r. TellsTyping asked b records r b) c.from_residual-in_err-counts.ensures (blocked_told asked b records b e c.requires.met.sheet c.requires.typable blocked)
 
-pub switch-2-requires-clause-locale : goal.switch-2-requires-clause-locale
-switch-2-requires-clause-locale c =
+pub switch-requires-2-clause-locale : goal.switch-requires-2-clause-locale
+switch-requires-2-clause-locale c =
     let book = c.args.model.now.book in
     let b = whole_of book in
     let asked = request c.args.at.now (chars c.args.locale_id.now) (chars c.args.language_id.now) in
@@ -62,8 +62,8 @@ switch-2-requires-clause-locale c =
     subst (λ (t : TableSet). IsSome (locale_of t (chars c.as_str-2.result.now))) (sym tables)
     (subst (λ (id : List ℕ). IsSome (locale_of b.tables id)) (sym (ap chars c.as_str-2.ensures.value ∙ c.in_ok-locale.ensures.own)) (own_locale_known book c.own_locale.ensures.valid))
 
-pub switch-2-requires-clause-language : goal.switch-2-requires-clause-language
-switch-2-requires-clause-language c =
+pub switch-requires-2-clause-language : goal.switch-requires-2-clause-language
+switch-requires-2-clause-language c =
     let book = c.args.model.now.book in
     let b = whole_of book in
     let asked = request c.args.at.now (chars c.args.locale_id.now) (chars c.args.language_id.now) in

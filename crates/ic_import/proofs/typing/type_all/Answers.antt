@@ -1,4 +1,4 @@
-use Rattle.std.proofs.Common.{◌≡◌, ◌+◌, ◌∷◌, ◌++◌, ℕ, List, [], Ok, ap, arith, length, length-append, subst, sym, ◌∙◌}
+use Rattle.std.proofs.Common.{◌≡◌, ◌+◌, ◌∷◌, ◌++◌, ℕ, List, ap, arith, length, length-append, subst, sym, ◌∙◌}
 use Rattle.csv.specs.Records.{fields_of}
 use Rattle.ic_laws.specs.CoreBook.{CellPlace}
 use Rattle.ic_book.specs.Whole.{whole_of}

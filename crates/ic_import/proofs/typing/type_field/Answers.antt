@@ -1,4 +1,4 @@
-use Rattle.std.proofs.Common.{◌≡◌, ◌+ℤ◌, ◌-◌, ℤ, List, [], ◌∷◌, ℕ, ap, arith, chars, of_z, string_bytes, subst, sym, to_z, w32, ◌∙◌}
+use Rattle.std.proofs.Common.{◌≡◌, [], ◌∷◌, ap, arith, chars, string_bytes, subst, sym, ◌∙◌}
 use Rattle.std.proofs.lemmas.Bool.{and_parts}
 use Rattle.std.proofs.lemmas.Int.{ints}
 use Rattle.ic_laws.specs.CoreBook.{CellPlace}
