@@ -69,7 +69,8 @@ pub fn import_csv<'a, S: Source>(
     ensures too_many { result ≡ Err ImportError.TooManyTurns
         → IfTold (S.left source.old) (S.left source.new)
         (λ before now. most_turns + length now ≤ length before) }
-    ensures unseen { result ≡ Err ImportError.TooManyTurns → S.ended source.new ≡ S.ended source.old }
+    ensures unseen { result ≡ Err ImportError.TooManyTurns
+        → S.ended source.new ≡ S.ended source.old }
     ensures blocked { IfErr result BlocksRightly }
 
     // Where there is no fault, and the source holds fewer than 2^32 bytes, neither of the source's errors comes.

@@ -105,8 +105,8 @@ fn type_field(
         (whole_of model.old.book)
         ≡ Ok (whole_of model.new.book, [])) }
     ensures blocked { IfErr result (TellsBlocked (typed at.now.sheet (at.now.row, at.now.column)
-        (record { at_record = number.at_record; at_field = number.at_field; bytes = field.now } ∷ [])
-        (whole_of model.old.book))) }
+        (record { at_record = number.at_record; at_field = number.at_field; bytes = field.now }
+        ∷ []) (whole_of model.old.book))) }
 {
     let Ok(text) = str::from_utf8(field) else {
         unreachable!()
