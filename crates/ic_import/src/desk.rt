@@ -97,9 +97,8 @@ fn imported<S: Source, K: Sink>(
     sink: &mut K,
 ) -> u8
     ensures written { (result ≡ 0) ⊎ (result ≡ 8)
-        → IfTold (S.left source.old) (S.left source.new)
-        (HasWritten (target asked.now) tables.now result (K.written sink.old)
-        (K.written sink.new)) }
+        → IfTold (S.left source.old) (S.left source.new) (HasWritten (target asked.now) tables.now
+        result (K.written sink.old) (K.written sink.new)) }
     ensures front { result ≡ 4 → IfTold (S.left source.old) (S.left source.new)
         (HasWrittenPart (target asked.now) tables.now (K.written sink.old) (K.written sink.new)) }
     ensures nothing { (result ≡ 3) ⊎ ((result ≡ 5) ⊎ (result ≡ 6)) → sink.new ≡ sink.old }

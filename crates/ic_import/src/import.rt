@@ -1,7 +1,7 @@
 //! The import of a source into a book.
-ghost use Rattle.std.specs.Prelude.{◌≡◌, ◌≢◌, ◌+◌, ◌<◌, ◌≤◌, ◌^◌, [], true, None, Some, Ok, Err, IfErr, IfOk, IsSome, IsSomeAnd, OnErr, OnOk, chars, length, string_bytes};
+ghost use Rattle.std.specs.Prelude.{◌≡◌, ◌≢◌, ◌+◌, ◌<◌, ◌≤◌, ◌^◌, [], true, Ok, Err, IfErr, IfOk, IsSome, IsSomeAnd, OnErr, OnOk, chars, length, string_bytes};
 ghost use Rattle.ic_laws.specs.Position.{is_column, is_row};
-ghost use Rattle.ic_lines.specs.Bytes.{HasFault, IfTold, TakesFirst};
+ghost use Rattle.ic_lines.specs.Bytes.{HasFault, IfTold};
 ghost use Rattle.ic_lines.specs.Reading.{most_turns};
 ghost use Rattle.ic_tables.specs.Tables.{HasGoodFormats, language_of, locale_of};
 ghost use Rattle.ic_tree.specs.Shown.{list_separator};

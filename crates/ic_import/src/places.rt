@@ -1,5 +1,5 @@
 //! Wrong fields: those that are no text, and those whose place is in no sheet.
-ghost use Rattle.std.specs.Prelude.{◌≡◌, ◌≤◌, ◌<◌, ◌+◌, ◌^◌, IfOk, length, option_map, true};
+ghost use Rattle.std.specs.Prelude.{◌≡◌, ◌≤◌, ◌<◌, ◌+◌, IfOk, option_map, true};
 ghost use Rattle.csv.specs.Records.{fields_of};
 ghost use Rattle.ic_laws.specs.Position.{is_column, is_row};
 ghost use Rattle.ic_import.specs.Placed.{Finds, first_outside, is_in_sheet, number_of, place_at, survey_of};

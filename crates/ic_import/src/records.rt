@@ -47,8 +47,8 @@ impl<'b> Records<'b> {
 
     /// Takes the next record into `fields`, and answers whether there was one. Only memory can be missing.
     pub fn take(&mut self, fields: &mut ByteRecord) -> Result<bool, OutOfMemory>
-        ensures { IfOk result (λ found. TakesRecord found self.old self.new
-            (fields_of fields.new)) }
+        ensures { IfOk result (λ found.
+            TakesRecord found self.old self.new (fields_of fields.new)) }
     {
         let Ok(found) = self.reader.read_byte_record(fields) else {
             return Err(OutOfMemory);

@@ -1,10 +1,10 @@
 //! Fields typed into a book, one after another.
-ghost use Rattle.std.specs.Prelude.{◌≡◌, ◌≤◌, ◌^◌, [], ◌∷◌, IfErr, IfOk, IsUtf8, None, Ok, OnOk, chars, length, true};
+ghost use Rattle.std.specs.Prelude.{◌≡◌, ◌≤◌, ◌^◌, [], ◌∷◌, IfErr, IfOk, IsUtf8, Ok, OnOk, length, true};
 ghost use Rattle.csv.specs.Records.{fields_of};
 ghost use Rattle.ic_laws.specs.Position.{is_column, is_row};
 ghost use Rattle.ic_book.specs.Whole.{whole_of};
-ghost use Rattle.ic_import.specs.Placed.{first_outside, is_in_sheet, place_at};
-ghost use Rattle.ic_import.specs.Records.{all_fields, fields_in, first_no_text, records_of};
+ghost use Rattle.ic_import.specs.Placed.{is_in_sheet, place_at};
+ghost use Rattle.ic_import.specs.Records.{all_fields, fields_in, records_of};
 ghost use Rattle.ic_import.specs.Typed.{TellsBlocked, Typable, error_of, type_field, typed};
 
 use crate::ImportError;
@@ -105,12 +105,8 @@ fn type_field(
         (whole_of model.old.book)
         ≡ Ok (whole_of model.new.book, [])) }
     ensures blocked { IfErr result (TellsBlocked (typed at.now.sheet (at.now.row, at.now.column)
-        (record {
-          at_record = number.at_record;
-          at_field = number.at_field;
-          bytes = field.now;
-        } ∷ [])
-        (whole_of model.old.book))) }
+        (record { at_record = number.at_record; at_field = number.at_field; bytes = field.now }
+        ∷ []) (whole_of model.old.book))) }
 {
     let Ok(text) = str::from_utf8(field) else {
         unreachable!()
