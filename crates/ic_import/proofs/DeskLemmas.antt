@@ -10,8 +10,8 @@ use Rattle.std.specs.declared.alloc.Global.{Global}
 use Rattle.ic_laws.specs.Character.{line_feed, tab}
 use Rattle.ic_lines.proofs.ToldLemmas.{IfTold-weaker}
 use Rattle.ic_lines.specs.Bytes.{AppendsFront, IfTold}
-use Rattle.ic_machine.specs.Book.{Book, Sheet, Stepped, found_or, lacks_sheet, unless_refused}
-use Rattle.ic_machine.specs.Refusal.{InvalidSheet, Refusal, first_refusal}
+use Rattle.ic_machine.specs.Book.{Book, Sheet, Stepped, found_or, unless_refused}
+use Rattle.ic_machine.specs.Refusal.{InvalidSheet, Refusal}
 use Rattle.ic_machine.specs.Reply.{Field as ReplyField, TextField, text_field}
 use Rattle.ic_machine.specs.subjects.Reading.{markup_step, sheet_markup}
 use Rattle.ic_run.specs.Core.{IsPlainBook}
@@ -19,7 +19,7 @@ use Rattle.ic_run.specs.Desk.{texts}
 use Rattle.ic_run.specs.Translate.{Target, target_refusal}
 use Rattle.ic_tables.specs.Tables.{language_of, locale_of}
 use Rattle.ic_import.specs.Desk.{NeverRefuses, Says, SaysOf, Writes, WritesPart, request_of, first_markup, refused_line, status_of, target_of}
-use Rattle.ic_import.specs.Import.{Leaves, NoText, Outcome, Outside, Refused, RefusesRequest, RestsOn, RestsOnBytes, Tells, TellsImport, in_notation, request_causes, request_refusal, outcome, outcome_of, typed_outcome}
+use Rattle.ic_import.specs.Import.{Leaves, NoText, Outcome, Outside, Refused, RefusesRequest, RestsOn, RestsOnBytes, Tells, TellsImport, in_notation, request_refusal, outcome, outcome_of, typed_outcome}
 use Rattle.ic_import.specs.Placed.{first_outside}
 use Rattle.ic_import.specs.Records.{Field, first_no_text}
 use Rattle.ic_import.specs.Typed.{Blocked, typed}

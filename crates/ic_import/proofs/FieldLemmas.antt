@@ -1,5 +1,5 @@
 -- Fields by their numbers: what is found in the fields of a record one after another, and in records one after another.
-use Rattle.std.proofs.Common.{◌≡◌, ◌⊎◌, inl, inr, ◌<◌, ◌≤◌, ◌+◌, ◌++◌, ℕ, suc, zero, List, [], ◌∷◌, Bool, true, false, Option, Some, None, cond, drop, length, IsUtf8, refl, sym, ap, ◌∙◌, arith, subst, add-one}
+use Rattle.std.proofs.Common.{◌≡◌, ◌<◌, ◌≤◌, ◌+◌, ℕ, suc, zero, List, [], ◌∷◌, Bool, true, false, Option, Some, None, drop, length, IsUtf8, refl, sym, ap, ◌∙◌, arith, add-one}
 use Rattle.std.specs.Prelude.{find, not, option_map}
 use Rattle.std.specs.Option.{option_or}
 use Rattle.std.proofs.lemmas.List.Folds.{find-append}

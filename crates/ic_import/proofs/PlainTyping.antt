@@ -1,24 +1,20 @@
 -- Typing into a book without merged cells and arrays of several cells: no field is refused, and the book stays so.
-use Rattle.std.proofs.Common.{◌≡◌, ◌<◌, ℕ, pos, List, [], ◌∷◌, ◌++◌, Bool, true, false, cond, not, ◌&&◌, Option, Some, None, Ok, Err, option_map, slice_get, length, chars, refl, sym, ap, subst, ◌∙◌, arith}
-use Rattle.std.specs.FinMap as finite
-use Rattle.std.specs.List.{AllByRecursion}
-use Rattle.std.specs.Prelude.{find}
+use Rattle.std.proofs.Common.{◌≡◌, ◌<◌, ℕ, pos, List, [], ◌∷◌, ◌++◌, Bool, true, false, cond, not, ◌&&◌, Option, Some, None, Ok, slice_get, length, chars, refl, sym, ap, subst, ◌∙◌, arith}
 use Rattle.ic_laws.proofs.core.Lists.{all_updated, length_updated}
 use Rattle.ic_laws.specs.CoreBook.{CellPlace}
-use Rattle.ic_laws.specs.CoreStep.{updated_at}
 use Rattle.ic_laws.specs.Position.{is_column, is_row}
 use Rattle.ic_cells.specs.declared.cell.ArrayKind.TheVariants as arrays
 use Rattle.ic_cells.specs.declared.value.FormulaValue.TheVariants as fvalues
 use Rattle.ic_input.specs.declared.input.Typed.{Typed}
 use Rattle.ic_input.specs.declared.input.Typed.TheVariants as kinds
-use Rattle.ic_grid.specs.Arrays.{anchor_at, is_fixed_at}
+use Rattle.ic_grid.specs.Arrays.{anchor_at}
 use Rattle.ic_grid.specs.Block.{Place, same_place}
 use Rattle.ic_grid.specs.Contents.{Contents}
 use Rattle.ic_grid.specs.Prepare.{prepared, released, released_if, unspilled, without_spill, written}
 use Rattle.ic_grid.specs.Shape.{is_anchor, is_loose, is_spill_of, reset}
 use Rattle.ic_machine.proofs.HaveLemmas.{AllHave, all_put, all_remade}
 use Rattle.ic_machine.proofs.ValidLemmas.{all_at}
-use Rattle.ic_machine.specs.Book.{Book, Grid, Sheet, style_number_at, unless_refused, with_sheet}
+use Rattle.ic_machine.specs.Book.{Book, Grid, Sheet, style_number_at, unless_refused}
 use Rattle.ic_machine.specs.Content as contents
 use Rattle.ic_machine.specs.Content.{Content, held, shape_of}
 use Rattle.ic_machine.specs.InForce.{typed_in}
@@ -27,7 +23,7 @@ use Rattle.ic_machine.specs.Styling.{restyled}
 use Rattle.ic_machine.specs.subjects.Writing.{Written, formula_at_place, input_step, place_causes, typed_written, with_content, with_written, write_causes}
 use Rattle.ic_run.proofs.PlainLemmas.{none_fixed}
 use Rattle.ic_run.specs.Core.{IsPlain, IsPlainBook}
-use Rattle.ic_import.specs.Placed.{first_outside, is_in_sheet, is_outside, place_of}
+use Rattle.ic_import.specs.Placed.{first_outside, is_in_sheet, place_of}
 use Rattle.ic_import.specs.Records.{Field}
 use Rattle.ic_import.specs.Typed.{go_on, type_field, typed}
 

@@ -1,5 +1,5 @@
 -- The places that fields are typed at, and the first one that no sheet has; and what is found of both kinds of wrong fields.
-use Rattle.std.specs.Prelude.{◌≡◌, ℕ, ℤ, pos, ◌+ℤ◌, ◌-ℤ◌, List, Bool, not, ◌&&◌, Option, Some, None, find, option_map}
+use Rattle.std.specs.Prelude.{◌≡◌, ℕ, pos, ◌+ℤ◌, ◌-ℤ◌, List, Bool, not, ◌&&◌, Option, Some, None, find, option_map}
 use Rattle.ic_laws.specs.CoreBook.{CellPlace}
 use Rattle.ic_laws.specs.Position.{is_column, is_row}
 use Rattle.ic_import.specs.Records.{Field, first_no_text}

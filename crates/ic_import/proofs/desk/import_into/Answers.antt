@@ -1,4 +1,4 @@
-use Rattle.std.proofs.Common.{◌≡◌, ◌⊎◌, inl, inr, List, ℕ, [], refl, subst}
+use Rattle.std.proofs.Common.{◌≡◌, inl, inr, [], refl, subst}
 use Rattle.std.specs.Prelude.{IsNone}
 use Rattle.ic_book.specs.Whole.{whole_of}
 use Rattle.ic_lines.proofs.ToldLemmas.{IfTold-weaker}

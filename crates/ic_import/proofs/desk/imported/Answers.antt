@@ -2,8 +2,7 @@ use Rattle.std.proofs.Common.{◌≡◌, subst, ap}
 use Rattle.ic_book.specs.Whole.{whole_of}
 use Rattle.ic_lines.proofs.ToldLemmas.{IfTold-weaker}
 use Rattle.ic_machine.specs.Book.{Book}
-use Rattle.ic_run.specs.Desk.{start_book}
-use Rattle.ic_run.specs.Make.{made_setting, made_start}
+use Rattle.ic_run.specs.Make.{made_start}
 use Rattle.ic_run.proofs.DeskLemmas.{start_plain}
 use Rattle.ic_import.specs.Desk.{HasWritten, HasWrittenPart, Writes, WritesPart, target}
 use Rattle.ic_import.proofs.desk.imported.Goals as goal

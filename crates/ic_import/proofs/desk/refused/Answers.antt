@@ -1,4 +1,4 @@
-use Rattle.std.proofs.Common.{◌≡◌, chars, string_bytes, ap, ◌∙◌}
+use Rattle.std.proofs.Common.{chars, string_bytes, ap, ◌∙◌}
 use Rattle.std.proofs.lemmas.Str.{chars-nil}
 use Rattle.ic_import.proofs.DeskLemmas.{line_told}
 use Rattle.ic_import.proofs.desk.refused.Goals as goal

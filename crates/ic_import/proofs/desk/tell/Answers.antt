@@ -4,7 +4,7 @@ use Rattle.std.specs.Prelude.{encode_utf8_all}
 use Rattle.ic_book.specs.Whole.{whole_of}
 use Rattle.ic_lines.proofs.ToldLemmas.{IfTold-weaker}
 use Rattle.ic_lines.specs.Bytes.{AppendsFront}
-use Rattle.ic_import.specs.Desk.{SaysOf, status_of}
+use Rattle.ic_import.specs.Desk.{SaysOf}
 use Rattle.ic_import.proofs.DeskLemmas.{never_4, told_status}
 use Rattle.ic_import.proofs.desk.tell.Goals as goal
 

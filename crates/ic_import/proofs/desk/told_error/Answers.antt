@@ -1,4 +1,4 @@
-use Rattle.std.proofs.Common.{Err, ap}
+use Rattle.std.proofs.Common.{ap}
 use Rattle.ic_import.specs.Desk.{failed}
 use Rattle.ic_import.proofs.DeskLemmas.{no_text_told, outside_told}
 use Rattle.ic_import.proofs.desk.told_error.Goals as goal

@@ -1,4 +1,4 @@
-use Rattle.std.proofs.Common.{◌≡◌, ◌<◌, ◌≤◌, ◌+◌, ◌∷◌, List, ℕ, None, Some, ap, arith, length, option_map, sym, ◌∙◌, false, true}
+use Rattle.std.proofs.Common.{◌≡◌, ◌+◌, None, ap, arith, option_map, sym, ◌∙◌, false, true}
 use Rattle.csv.specs.Records.{field_at, fields_of}
 use Rattle.ic_laws.specs.CoreBook.{CellPlace}
 use Rattle.ic_import.specs.Placed.{is_outside, number_of}

@@ -1,4 +1,4 @@
-use Rattle.std.proofs.Common.{◌≡◌, ◌≤◌, ◌-◌}
+use Rattle.std.proofs.Common.{◌≡◌, ◌-◌}
 use Rattle.csv.specs.Records.{fields_of}
 use Rattle.ic_import.specs.Placed.{first_outside}
 use Rattle.ic_import.specs.Records.{fields_in}

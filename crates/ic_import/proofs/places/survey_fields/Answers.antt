@@ -1,10 +1,10 @@
-use Rattle.std.proofs.Common.{◌≡◌, ◌+◌, add-one, ◌∷◌, List, ℕ, None, Some, Option, ap, arith, length, option_map, subst, sym, ◌∙◌, true}
+use Rattle.std.proofs.Common.{◌≡◌, ◌+◌, add-one, ◌∷◌, List, ℕ, None, Some, Option, ap, arith, length, option_map, sym, ◌∙◌}
 use Rattle.csv.specs.Records.{fields_of}
 use Rattle.ic_laws.specs.CoreBook.{CellPlace}
 use Rattle.std.specs.Option.{option_or}
 use Rattle.ic_import.specs.declared.places.FieldNumber.{FieldNumber}
 use Rattle.ic_import.specs.Placed.{first_outside, is_outside, number_of}
-use Rattle.ic_import.specs.Records.{TakesRecord, first_no_text, fields_from, fields_in, is_no_text}
+use Rattle.ic_import.specs.Records.{first_no_text, fields_from, fields_in, is_no_text}
 use Rattle.ic_import.proofs.FieldLemmas.{found_here, found_numbers, none_found, passed_here}
 use Rattle.ic_import.proofs.places.survey_fields.Goals as goal
 
