@@ -1,5 +1,5 @@
 -- What a choice of a language leaves of a book and of the users' languages.
-use Rattle.std.proofs.Common.{◌≡◌, ℕ, List, [], Bool, true, false, Option, Some, None, Ok, Err, refl, sym, ap, ◌∙◌}
+use Rattle.std.proofs.Common.{◌≡◌, ℕ, List, [], true, false, Option, Some, None, Ok, Err, refl, sym, ap}
 use Rattle.std.specs.FinMap as finite
 use Rattle.std.specs.Prelude.{IfSome, IsSome}
 use Rattle.ic_laws.specs.CoreStep.{Outcome}

@@ -4,7 +4,7 @@ use lib.Utf8.{encode}
 use Rattle.std.specs.Str.{IsUtf8, chars}
 use Rattle.std.specs.List.{after_first, before_first, list_any, onto_first, position_or_len}
 use Rattle.std.proofs.Math.Seq.{drop-append-add, take-append_seam}
-use Rattle.std.proofs.lemmas.Bool.{eqb-true, false_from_ne_true}
+use Rattle.std.proofs.lemmas.Bool.{eqb-true}
 use Rattle.std.proofs.lemmas.List.Folds.{list_any-append, list_any_none}
 use Rattle.std.proofs.lemmas.List.Splits.{slice_split-cons_no, slice_split_first}
 use Rattle.std.proofs.lemmas.Str.{IsCharBoundary-before_ascii, IsUtf8-take, chars-append, encodes-chars}

@@ -1,10 +1,10 @@
 -- The languages of users, as they are held and as they are meant.
-use Rattle.std.proofs.Common.{◌≡◌, ℕ, List, [], ◌∷◌, Bool, true, false, cond, Option, Some, None, Ok, Err, String, string_bytes, refl, sym, ap, subst, ◌∙◌}
+use Rattle.std.proofs.Common.{◌≡◌, ℕ, List, [], ◌∷◌, true, false, Option, Some, None, Ok, Err, String, string_bytes, refl, sym, ap, subst, ◌∙◌}
 use Rattle.std.specs.declared.alloc.Global.{Global}
 use Rattle.std.specs.Str.{IsUtf8, chars}
 use Rattle.std.specs.Prelude.{IfOk, MatchResult, OnErr}
 use Rattle.std.proofs.lemmas.Str.{encodes-chars}
-use Rattle.ic_machine.specs.Command.{Command, command_in, commands}
+use Rattle.ic_machine.specs.Command.{command_in, commands}
 use Rattle.ic_machine.specs.Refusal.{BadLine}
 use Rattle.ic_machine.specs.Reply.{Reply, reply_bytes}
 use Rattle.ic_machine.specs.Step.{command_step, english_errors, line_step}

@@ -1,4 +1,4 @@
-use Rattle.std.proofs.Common.{List, ℕ, ap, chars, string_bytes, sym, ◌∙◌}
+use Rattle.std.proofs.Common.{List, ℕ, ap, chars, string_bytes, ◌∙◌}
 use Rattle.std.specs.FinMap as finite
 use Rattle.ic_share.specs.Share.{UsersState, languages_held}
 use Rattle.ic_share.proofs.MapLemmas.{language_put_in}

@@ -1,4 +1,4 @@
-use Rattle.std.proofs.Common.{List, ℕ, Some, None, ap, chars, string_bytes, sym, unwrap_or, ◌∙◌}
+use Rattle.std.proofs.Common.{ap, chars, string_bytes, unwrap_or, ◌∙◌}
 use Rattle.std.specs.FinMap as finite
 use Rattle.ic_share.specs.Share.{UsersState}
 use Rattle.ic_share.proofs.MapLemmas.{language_chosen_by, language_own_of}

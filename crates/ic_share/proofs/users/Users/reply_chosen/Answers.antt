@@ -1,4 +1,4 @@
-use Rattle.std.proofs.Common.{[], chars, string_bytes, ap, sym, ◌∙◌, true, false}
+use Rattle.std.proofs.Common.{[], chars, string_bytes, ap, ◌∙◌, true, false}
 use Rattle.ic_machine.specs.Book.{Book}
 use Rattle.ic_machine.specs.Command.{command_in, commands}
 use Rattle.ic_machine.specs.Step.{english_errors, line_step}
