@@ -2,6 +2,7 @@
 
 FUNCTIONS = ["SUM", "AVERAGE", "MIN", "MAX", "COUNT", "IF", "ROUND", "ABS"]
 SHEETS = ["Data", "Sheet1", "Budget", "Next"]
+LANGUAGES = ["en", "es", "fr", "de", "it"]
 ROWS = 100_000
 
 
@@ -238,6 +239,45 @@ def lambda_used(count):
     """A LAMBDA with so many parameters, each used once."""
     names = [f"p_{n}" for n in range(count)]
     yield put(1, f"LAMBDA({','.join(names)},{'+'.join(names[:1000])})")
+
+
+def plain_filled(count):
+    """A short formula without a word, which each language has, filled down."""
+    for i in range(1, count + 1):
+        yield put(i, f"(A{i % ROWS + 1}+B{i % ROWS + 1})*2")
+
+
+def choices(users):
+    """So many users, who choose the five languages in turns."""
+    for i in range(users):
+        yield f"user {i}\tset_language\t{LANGUAGES[i % 5]}"
+
+
+def of_users(lines, users):
+    """These lines, sent by so many users in turns."""
+    for i, line in enumerate(lines):
+        yield f"user {i % users}\t{line}"
+
+
+def whole_numbers(count, cells):
+    """Different whole numbers, typed into so many cells over and over."""
+    for i in range(count):
+        yield f"set_user_input\t{cell(i % cells)}\t{i * 7919 % 1_000_003}"
+
+
+def records(count):
+    """Records of ten fields: four numbers, two dates, three texts and a formula."""
+    numbers, texts, dates = typed_numbers(4 * count), typed_texts(3 * count), typed_dates(2 * count)
+    for row in range(1, count + 1):
+        one, two, three, four = (next(numbers) for _ in range(4))
+        yield [next(dates), next(texts), one, two, next(dates), next(texts), three, next(texts), four, f"=C{row}*D{row}-SUM(G{row}:I{row})"]
+
+
+def typed_records(rows):
+    """The same fields, typed by lines."""
+    for row, fields in enumerate(rows, 1):
+        for column, field in enumerate(fields, 1):
+            yield f"set_user_input\t0\t{row}\t{column}\t{field}"
 
 
 def shown_of_sheets(count):

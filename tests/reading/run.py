@@ -1,7 +1,7 @@
 """Runs sessions of command lines by the definitions of the machine, as they were retold here, and compares the replies.
 
 python3 tests/reading/run.py FOLDER.. [--no-names-behind-sheets] [--core] [--without=WORD]: each folder has files NAME.lines with the
-lines and NAME.replies with the replies that are wanted. With --core the core machine answers, with its commands alone; commands
+lines and NAME.replies with the replies that are wanted. With --core the identity machine answers, with its commands alone; commands
 with a word in their name can be left out. The first difference of each session is shown; the status is 1 where there is one."""
 import glob
 import os

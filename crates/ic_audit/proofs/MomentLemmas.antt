@@ -2,7 +2,8 @@
 use Rattle.std.proofs.Common.{◌≡◌, ℕ, List, [], ◌∷◌, refl, sym, ap, ◌∙◌}
 use Rattle.ic_laws.specs.Lines.{texts_of}
 use Rattle.ic_tables.specs.Tables.{TableSet}
-use Rattle.ic_machine.specs.Book.{Book, Metadata}
+use Rattle.ic_cells.specs.declared.workbook.Metadata.{Metadata}
+use Rattle.ic_machine.specs.Book.{Book}
 use Rattle.ic_machine.specs.Run.{after}
 use Rattle.ic_machine.specs.Translation.{left_after}
 use Rattle.ic_machine.proofs.MetadataFree.{left_same, with_metadata}

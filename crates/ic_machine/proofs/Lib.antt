@@ -7,7 +7,7 @@ pub mod ArraysStay
 mod BareGrid
 mod BesideLemmas
 pub mod BindsLemmas
-mod BodyAgain
+pub mod BodyAgain
 mod ChangedSame
 pub mod ChangedStays
 pub mod CopiedBinds
@@ -63,9 +63,9 @@ pub mod StandingLemmas
 pub mod SteppedLemmas
 pub mod StylesStay
 pub mod SubjectsStay
-mod TextEnds
+pub mod TextEnds
 pub mod TranslationSame
-mod TreeAgain
+pub mod TreeAgain
 mod UpdateSame
 mod TypedAmounts
 pub mod UpdatedBinds

@@ -143,7 +143,7 @@ def lacks_sheet(book, index):
 
 
 def as_core(outcome, left):
-    """A step of the core machine as one that leaves this; what it leaves is made only where nothing refuses."""
+    """A step of the identity machine as one that leaves this; what it leaves is made only where nothing refuses."""
     if outcome[0] == "Err":
         return "Err", (outcome[1],)
     return "Ok", left() if callable(left) else left, outcome[1]

@@ -26,7 +26,7 @@ def line_step(rows, book, line):
 
 
 def core_refusal(book, command):
-    """What the core machine refuses of a formula that is written; what it does otherwise is what the whole machine does."""
+    """What the identity machine refuses of a formula that is written; what it does otherwise is what the whole machine does."""
     if command is None or command[1][0] != "UpdateCellWithFormula":
         return None
     outcome = core_step(notations_in(book), core_of(book), command[1])
@@ -34,7 +34,7 @@ def core_refusal(book, command):
 
 
 def core_machine(rows, book, line):
-    """The core machine, with a table of its commands, over the whole book."""
+    """The identity machine, with a table of its commands, over the whole book."""
     command = command_in(language_of(book.tables, ENGLISH), rows, line)
     left, reply = outcome_of(book, core_refusal(book, command) or step(book, command)) if command else command_step(book, None)
     return left, reply_bytes(reply)

@@ -1,0 +1,7 @@
+use Rattle.std.proofs.Common.{sym, ◌∙◌}
+use Rattle.ic_run.proofs.DeskLemmas.{empty_list}
+use Rattle.ic_import.proofs.DeskLemmas.{no_words}
+use Rattle.ic_import.proofs.asked.asked_for.Goals as goal
+
+pub returns-then-is_empty : goal.returns-then-is_empty
+returns-then-is_empty c = no_words c.args.words.now (empty_list c.args.words.now (sym c.is_empty.ensures ∙ c.if-is_empty.true))

@@ -1,0 +1,6 @@
+pub mod Desk
+pub mod Import
+pub mod Placed
+pub mod Reader
+pub mod Records
+pub mod Typed

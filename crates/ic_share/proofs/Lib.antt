@@ -1,0 +1,10 @@
+pub mod ChoiceLemmas
+pub mod ChosenLemmas
+pub mod KnownLemmas
+pub mod LeaveOutLemmas
+pub mod LineLemmas
+pub mod MapLemmas
+pub mod ReplyLemmas
+pub mod SentLemmas
+pub mod SharedRuns
+pub mod UsersLemmas

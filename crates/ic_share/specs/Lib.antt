@@ -1,0 +1,4 @@
+pub mod LeaveOut
+pub mod Share
+pub mod Shared
+pub mod Users
