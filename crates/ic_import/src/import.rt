@@ -62,8 +62,9 @@ pub fn import_csv<'a, S: Source>(
         (whole_of model.old.book)) result }
     ensures untouched { IfErr result (λ e. IsOfRequest e → source.new ≡ source.old) }
 
-    // When each other error comes; else a read showed the end.
+    // When each other error comes; else a read showed the end, and none failed.
     ensures end { RestsOnBytes result → S.ended source.new ≡ true }
+    ensures quiet { RestsOnBytes result → S.faults source.new ≡ S.faults source.old }
     ensures read_fault { result ≡ Err ImportError.ReadFault
         → HasFault (S.faults source.old) (S.faults source.new) }
     ensures too_many { result ≡ Err ImportError.TooManyTurns
@@ -179,6 +180,7 @@ fn all_bytes<S: Source>(alloc: Global, source: &mut S) -> Result<Vec<u8>, Import
     ensures all { IfOk result (λ bytes. IfTold (S.left source.old) (S.left source.new)
         (λ before now. (bytes.items ≡ before) × (now ≡ []))) }
     ensures end { OnOk result (S.ended source.new ≡ true) }
+    ensures quiet { OnOk result (S.faults source.new ≡ S.faults source.old) }
     ensures read_fault { result ≡ Err ImportError.ReadFault
         → HasFault (S.faults source.old) (S.faults source.new) }
     ensures too_many { result ≡ Err ImportError.TooManyTurns

@@ -48,6 +48,14 @@ returns-in_err-bytes-clause-end g c =
     let kind = reading_kind (ℕ × ℕ) e (request_refusal asked b) c.in_err-bytes.ensures.which c.in-Ok.ensures.refused in
     result_as c.from_residual.result e (λ r. RestsOnBytes r → g.S.Source.ended c.all_bytes.new.source ≡ true) c.from_residual.ensures (λ h. absurd (kind.0 h))
 
+pub returns-in_err-bytes-clause-quiet : goal.returns-in_err-bytes-clause-quiet
+returns-in_err-bytes-clause-quiet g c =
+    let b = whole_of c.args.model.now.book in
+    let asked = request c.args.at.now (chars c.args.locale_id.now) (chars c.args.language_id.now) in
+    let e = c.in_err-bytes.field-0.0 in
+    let kind = reading_kind (ℕ × ℕ) e (request_refusal asked b) c.in_err-bytes.ensures.which c.in-Ok.ensures.refused in
+    result_as c.from_residual.result e (λ r. RestsOnBytes r → g.S.Source.faults c.all_bytes.new.source ≡ g.S.Source.faults c.args.source.now) c.from_residual.ensures (λ h. absurd (kind.0 h))
+
 pub returns-in_err-bytes-clause-read_fault : goal.returns-in_err-bytes-clause-read_fault
 returns-in_err-bytes-clause-read_fault g c =
     let faults = g.S.Source.faults in
