@@ -1,8 +1,9 @@
-"""Finds a row of cases for each refusal, and looks whether the rows that docs/REFUSALS.md names say what it says.
+"""Finds a row of cases for each refusal, and looks whether the rows that two pages name say what these say: docs/REFUSALS.md and
+tests/hostile/REFUSED.md.
 
 python3 tests/hostile/refusals.py [ROWS ANSWERS].. [--table]: the rows are those of crates/ic_cases (stdin and stdout), and of the
 files told besides. For each command of docs/COMMANDS.md each refusal that it lists, and a bad line, has to have a row; and in the tables of
-docs/REFUSALS.md each row has to be answered with its refusal. With --table it writes the table of commands anew, its last one, in which
+the two pages each row has to be answered with its refusal. With --table it writes the table of REFUSED.md anew, in which
 commands with the same rows share a line. The status is 1 where something is missing. It takes a second."""
 import os
 import re
@@ -116,12 +117,12 @@ def main(words):
     if "--table" in words:
         table(tellings)
     named = 0
-    for refusal, row in told(text_of("docs", "REFUSALS.md")):
+    for refusal, row in told(text_of("docs", "REFUSALS.md") + text_of("tests", "hostile", "REFUSED.md")):
         named += 1
         if refusal not in answers.get(row, ()):
             wrong += 1
-            print(f"docs/REFUSALS.md: {row} isn't answered with {refusal}, but with {answers.get(row, 'nothing: no such row')}")
-    print(f"{count} refusals of commands and {named} rows of docs/REFUSALS.md, {wrong} wrong")
+            print(f"{row} isn't answered with {refusal}, but with {answers.get(row, 'nothing: no such row')}")
+    print(f"{count} refusals of commands and {named} rows of the pages, {wrong} wrong")
     return 1 if wrong else 0
 
 
