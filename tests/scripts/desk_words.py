@@ -17,6 +17,9 @@ import tempfile
 import time
 
 TOP = os.path.dirname(os.path.dirname(os.path.dirname(os.path.realpath(__file__))))
+# A shell that runs this in the background has these ignored, and what is ignored can't be trapped below.
+for it in (signal.SIGINT, signal.SIGQUIT, signal.SIGHUP):
+    signal.signal(it, signal.SIG_DFL)
 # Plays the toolchain: `rt version`, and `rt try -- WORDS`, which tells the words and the input, and ends as it is told to.
 RT = """#!/bin/bash
 if [ "$1" = version ]; then echo "played-kit logic 0123"; exit 0; fi
