@@ -63,10 +63,11 @@ class Handle:
             return (OK if status == NO_ROOM else status), reply
 
     def answer(self, line: str) -> str:
-        """The reply to a command line, without the line feed that ends it.
+        r"""The reply to a command line, without the line feed that ends it.
 
-        >>> Book().answer("get_cell_formula\\t0\\t1\\t1")
-        'ok'
+        >>> from lurvetta import Book
+        >>> Book().answer("get_locale")
+        'ok\ten'
         """
         status, reply = self._ask(library.lurvetta_answer, line.encode())
         if status == NO_MEMORY:

@@ -40,6 +40,11 @@ pub record TellsRefusal (refusal : Option Refusal) (status : ℕ) : Type 0 where
   pub language : status ≡ 7 → refusal ≡ Some InvalidLanguage
   pub which : (status ≡ 1) ⊎ IsRefusal status
 
+-- why no book was opened, by the tables that there are: without any, memory ran out
+abbrev pub NoBook : Wanted → Option TableSet → ℕ → Type 0
+NoBook wanted None status = status ≡ 1
+NoBook wanted (Some tables) status = TellsRefusal (wanted_refusal wanted tables) status
+
 -- the statuses of a call that opens a book
 abbrev pub IsOpenStatus : ℕ → Type 0
 IsOpenStatus status = (status ≡ 0) ⊎ ((status ≡ 1) ⊎ ((status ≡ 4) ⊎ ((status ≡ 8) ⊎ IsRefusal status)))

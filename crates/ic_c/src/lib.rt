@@ -5,12 +5,12 @@
 //! it, or is kept for another call that copies it. Statuses are numbers with names (`status`).
 #![tactic(auto)]
 
-ghost use Rattle.std.specs.Prelude.{◌≡◌, ◌≢◌, [], ◌∷◌, ◌*ℤ◌, None, Some, IfOk, IsSomeAnd, chars, option_map, pos};
+ghost use Rattle.std.specs.Prelude.{◌≡◌, ◌≢◌, ◌⊎◌, [], ◌∷◌, ◌*ℤ◌, None, Some, IfOk, IsSomeAnd, OnErr, chars, option_map, pos};
 ghost use Rattle.ic_laws.specs.Lines.{line_text, texts_of};
 ghost use Rattle.ic_tables.specs.Sample.{sample};
 ghost use Rattle.ic_c.specs.Answered.{AnswersIn, Copied, NotOpen, OfOpen};
 ghost use Rattle.ic_c.specs.Held.{open_in, reply_of, tables_in};
-ghost use Rattle.ic_c.specs.Opened.{AreUtf8, IsNew, IsOpenStatus, IsRefusal, KeepsTables, TellsRefusal, Wanted, wanted_refusal};
+ghost use Rattle.ic_c.specs.Opened.{AreUtf8, IsNew, IsOpenStatus, IsRefusal, KeepsTables, NoBook, Wanted};
 ghost use Rattle.jiff_core.specs.Timestamp.{IsTimestampNanos};
 
 mod lines;
@@ -52,6 +52,7 @@ fn put_back(room: &mut Room, session: Box<Session>)
 fn tables_of(alloc: Global, room: &mut Room) -> Result<&'static Tables, OutOfMemory>
     ensures given { IfOk result (λ t. tables_in room.new.held ≡ Some t.now) }
     ensures kept { KeepsTables room.old.held room.new.held }
+    ensures none { OnErr result (tables_in room.new.held ≡ None) }
 {
     if let Some(session) = take_out(alloc, room) {
         let tables = session.tables;
@@ -98,13 +99,12 @@ pub extern "C" fn lurvetta_open(
     ensures not_utf8 { result ≡ 4
         → ¬ AreUtf8 (name.now ∷ locale.now ∷ language.now ∷ zone.now ∷ []) }
     ensures no_moment { result ≡ 8 → ¬ IsTimestampNanos (milliseconds *ℤ pos 1_000_000) }
-    ensures refused { IsRefusal result → IsSomeAnd (tables_in tables.new.held) (λ t. TellsRefusal
-        (wanted_refusal (record {
-          name = chars name.now;
-          locale = chars locale.now;
-          language = chars language.now;
-          zone = chars zone.now;
-        }) t) result) }
+    ensures refused { (result ≡ 1) ⊎ IsRefusal result → NoBook (record {
+      name = chars name.now;
+      locale = chars locale.now;
+      language = chars language.now;
+      zone = chars zone.now;
+    }) (tables_in tables.new.held) result }
     ensures which { IsOpenStatus result }
 {
     let wanted = match wanted_of(name, locale, language, zone, milliseconds) {
