@@ -54,7 +54,7 @@ OfOpen does none old new = ⊥
 -- the same of what stands behind a room; its tables are as they were
 pub record OfSession (does : Open → Open → Type 0) (none : Type 0) (old new : Session) : Type 0 where
   pub tables : new.tables ≡ old.tables
-  pub opened : OfOpen does none old.open new.open
+  pub opened : OfOpen does none old.opened new.opened
 
 -- the same of a room
 abbrev pub OfRoom : (Open → Open → Type 0) → Type 0 → Option Session → Option Session → Type 0

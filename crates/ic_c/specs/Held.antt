@@ -20,7 +20,7 @@ room_owns R a (block_ptr b o) None = ffalse
 
 -- the open book of a room, with the reply that is kept
 abbrev pub open_in : Option Session → Option Open
-open_in held = option_and_then (λ s. s.open) held
+open_in held = option_and_then (λ s. s.opened) held
 
 -- the tables of a room
 abbrev pub tables_in : Option Session → Option TableSet

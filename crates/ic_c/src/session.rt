@@ -43,16 +43,16 @@ impl Drop for Open {
 #[derive(Drop)]
 pub struct Session {
     pub tables: Option<&'static Tables>,
-    pub open: Option<Open>,
+    pub opened: Option<Open>,
 }
 
 /// A box of neither tables nor a book.
 fn blank(alloc: Global) -> Result<Box<Session>, OutOfMemory>
-    ensures { IfOk result (λ b. b.value.open ≡ None) }
+    ensures { IfOk result (λ b. b.value.opened ≡ None) }
 {
     let blank = Session {
         tables: None,
-        open: None,
+        opened: None,
     };
     match Box::new(alloc, blank) {
         Ok(session) => Ok(session),
@@ -64,7 +64,7 @@ fn blank(alloc: Global) -> Result<Box<Session>, OutOfMemory>
 /// before that, so that nothing is lost where it runs out.
 pub fn tables(alloc: Global) -> Result<Box<Session>, OutOfMemory>
     ensures tables { IfOk result (λ b. IsSomeAnd b.value.tables (λ t. t.now ≡ sample)) }
-    ensures closed { IfOk result (λ b. b.value.open ≡ None) }
+    ensures closed { IfOk result (λ b. b.value.opened ≡ None) }
 {
     let mut session = blank(alloc)?;
     let tables = match Box::new(alloc, sample_tables(alloc)?) {
@@ -81,7 +81,7 @@ pub fn opened(
     tables: &'static Tables,
     asked: &Wanted<'_>,
 ) -> Result<Box<Session>, u8>
-    ensures opened { IfOk result (λ b. IsSomeAnd b.value.open
+    ensures opened { IfOk result (λ b. IsSomeAnd b.value.opened
         (IsNew (wanted asked.now) tables.now)) }
     ensures tables { IfOk result (λ b. IsSomeAnd b.value.tables (λ t. t.now ≡ tables.now)) }
     ensures refused { IfErr result
@@ -95,7 +95,7 @@ pub fn opened(
         Err(e) => return Err(status_of(&e)),
     };
     session.tables = Some(tables);
-    session.open = Some(Open {
+    session.opened = Some(Open {
         book,
         replies: Vec::new(alloc),
         last: String::new(alloc),
@@ -195,11 +195,11 @@ impl Session {
             (λ a b. Answers (line_text line.now ∷ []) a b out.old out.new told.new result)
             (NotOpen out.old out.new told.new result) self.old self.new }
     {
-        let Some(open) = &mut self.open else {
+        let Some(book) = &mut self.opened else {
             return not_open(told);
         };
-        let done = open.answer(alloc, line);
-        open.tell(done, out, told)
+        let done = book.answer(alloc, line);
+        book.tell(done, out, told)
     }
 
     /// Answers the lines of the bytes, and tells the replies.
@@ -208,20 +208,20 @@ impl Session {
             (λ a b. Answers (texts_of bytes.now) a b out.old out.new told.new result)
             (NotOpen out.old out.new told.new result) self.old self.new }
     {
-        let Some(open) = &mut self.open else {
+        let Some(book) = &mut self.opened else {
             return not_open(told);
         };
-        let done = open.run(alloc, bytes);
-        open.tell(done, out, told)
+        let done = book.run(alloc, bytes);
+        book.tell(done, out, told)
     }
 
     /// Tells the reply that is kept.
     pub fn copy(&self, out: &mut [u8], told: &mut usize) -> u8
         ensures { OfOpen (λ a _. Copied (reply_of a) out.old out.new told.new result)
-            (NotOpen out.old out.new told.new result) self.now.open self.now.open }
+            (NotOpen out.old out.new told.new result) self.now.opened self.now.opened }
     {
-        match &self.open {
-            Some(open) => open.copy(out, told),
+        match &self.opened {
+            Some(book) => book.copy(out, told),
             None => not_open(told),
         }
     }
@@ -246,4 +246,18 @@ fn status_of(e: &BookError) -> u8
         BookError::InvalidLanguage => INVALID_LANGUAGE,
         _ => NO_MEMORY,
     }
+}
+
+/// A session may be handed to another thread: all that it owns may.
+pub fn handed_on(session: Box<Session>) -> Box<Session>
+    ensures { result ≡ session }
+{
+    to_any_thread(session)
+}
+
+// What may be handed to another thread.
+fn to_any_thread<T: Send>(value: T) -> T
+    ensures { result ≡ value }
+{
+    value
 }
