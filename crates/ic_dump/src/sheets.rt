@@ -1,12 +1,12 @@
 //! The sheets of a book with the formulas of their cells.
 ghost use Rattle.std.specs.Prelude.{◌≡◌, IfOk, Some, map, option_map};
 ghost use Rattle.std.specs.List.{slice_get};
-ghost use Rattle.ic_laws.specs.CoreBook.{Sheet, scene_of};
-ghost use Rattle.ic_book.specs.Book.{IsValidBook, core_of};
+ghost use Rattle.ic_laws.specs.CoreBook.{Sheet};
+ghost use Rattle.ic_book.specs.Book.{IsValidBook, core_of, scene_in};
 ghost use Rattle.ic_book.specs.Lent.{placed};
 ghost use Rattle.ic_dump.specs.Records.{core_seen};
 
-use ic_book::{BookError, Model, PlacedFormula};
+use ic_book::{Model, PlacedFormula};
 use ic_laws::{OutOfMemory, SheetName};
 use std::alloc::Global;
 
@@ -23,7 +23,7 @@ pub(crate) fn sheets_seen<'b>(
     model: &'b Model<'_>,
     names: &'b [SheetName],
 ) -> Result<Vec<SheetSeen<'b>>, OutOfMemory>
-    requires names { names.now ≡ (scene_of (core_of model.now.book)).sheets }
+    requires names { names.now ≡ (scene_in model.now.book).sheets }
     requires valid { IsValidBook model.now.book }
     ensures { IfOk result (λ sheets. map core_seen sheets.items
         ≡ (core_of model.now.book).sheets) }
@@ -37,15 +37,13 @@ pub(crate) fn sheets_seen<'b>(
 }
 
 /// The formulas of the cells of the sheet at an index, where one stands.
-fn cells_at<'b>(
-    model: &'b Model<'_>,
-    index: u32,
-) -> Result<Vec<PlacedFormula<'b>>, OutOfMemory>
+fn cells_at<'b>(model: &'b Model<'_>, index: u32) -> Result<Vec<PlacedFormula<'b>>, OutOfMemory>
     ensures { (s : Sheet) → slice_get (core_of model.now.book).sheets index ≡ Some s
         → IfOk result (λ cells. map placed cells.items ≡ s.cells) }
 {
     match model.formulas_in(index) {
         Ok(cells) => Ok(cells),
+        // The sheet is there, so memory ran out.
         Err(_) => Err(OutOfMemory),
     }
 }
