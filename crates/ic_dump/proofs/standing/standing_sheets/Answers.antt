@@ -37,7 +37,7 @@ returns-clause-sheets c =
     let told = passing_told b sheets c.requires.sheets c.args.definitions.now c.requires.definitions in
     let ids = c.in_ok-ids.ids.items in
     let taken = map (λ t. t.now) c.in_ok-taken.taken.items in
-    let many : c.len-2.result ≡ length ids = omega (arith, c.in_ok-ids.ids.ok.0) in
+    let many : c.len.result ≡ length ids = omega (arith, c.in_ok-ids.ids.ok.0) in
     all_stand b sheets c.requires.sheets c.in_ok-standing.standing.sheets.items c.push_named.new.standing.sheets.items ids c.in_ok-names.names.items taken
     (c.in_ok-ids.ensures ∙ told)
     c.in_ok-standing.ensures.sheets
@@ -57,11 +57,11 @@ returns-clause-few c =
     inr small
 
 pub free_numerals-requires : goal.free_numerals-requires
-free_numerals-requires c = omega (arith, c.len-2.ensures, c.in_ok-ids.ids.ok, c.in_ok-ids.ids.small)
+free_numerals-requires c = omega (arith, c.len.ensures, c.in_ok-ids.ids.ok, c.in_ok-ids.ids.small)
 
 -- each definition has its record
 pub taken_names-requires-clause-definitions : goal.taken_names-requires-clause-definitions
 taken_names-requires-clause-definitions c =
     let b = c.args.model.now.book in
     let many : length c.args.definitions.now ≡ length b.definitions = ap length c.requires.definitions ∙ length-map b.definitions (defined_name_of b) in
-    omega (arith, many, c.len.ensures)
+    omega (arith, many)
