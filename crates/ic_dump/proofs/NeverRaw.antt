@@ -8,9 +8,11 @@ use Rattle.ic_laws.specs.declared.tree.NameKey.{NameKey}
 use Rattle.ic_tables.specs.Tables.{TableSet}
 use Rattle.ic_machine.specs.Book.{Book, core_of}
 use Rattle.ic_machine.specs.Refusal.{Site}
+use Rattle.ic_machine.specs.Run.{after}
 use Rattle.ic_book.specs.Book as held
 use Rattle.ic_book.specs.Whole.{whole_of}
 use Rattle.ic_book.proofs.WholeLemmas.{whole_core}
+use Rattle.ic_run.specs.Core.{whole_machine}
 use Rattle.ic_run.specs.Make.{made_start}
 use Rattle.ic_run.specs.Prepared.{IsLeftBySome}
 use Rattle.ic_dump.specs.Refused.{RawBody, Rereads, cause_of, raw_body, rereading}
@@ -19,7 +21,7 @@ use Rattle.ic_dump.proofs.BodyTrees.{no_raw_body, run_trees}
 pub never_raw : (tables : TableSet) (book : held.Book) → IsLeftBySome tables book → raw_body (held.core_of book) ≡ None
 never_raw tables book left =
     ap raw_body (sym (whole_core book)) ∙ ap (λ (b : Book). raw_body (core_of b)) left.1.1
-    ∙ no_raw_body _ (run_trees (made_start left.0 tables) left.1.0 tt)
+    ∙ no_raw_body (after whole_machine (made_start left.0 tables) left.1.0) (run_trees (made_start left.0 tables) left.1.0 tt)
 
 rereads_alone : (o : Option Site) (key : NameKey) → option_or None (option_map Rereads o) ≡ Some (RawBody key) → ⊥
 rereads_alone None key e = cc

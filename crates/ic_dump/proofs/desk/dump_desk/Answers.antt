@@ -37,5 +37,5 @@ returns-in-Ok-clause-front g c at_4 =
     (λ bytes rest is. IfTold-weaker (written c.args.sink.now) (written c.tell-status.new.sink) (AppendsFront (told_of (whole_of book))) (AppendsToldFront tables bytes)
     (λ before now told. front_anytime before now tables bytes book is told) (c.tell-status.ensures.front at_4)) c.in-Ok.ensures.book
 
-pub tell-requires : goal.tell-requires
-tell-requires g c = never_raw c.args.tables.now c.in-Ok.model.book c.in-Ok.ensures.lines
+pub tell-status-requires : goal.tell-status-requires
+tell-status-requires g c = never_raw c.args.tables.now c.in-Ok.model.book c.in-Ok.ensures.lines
