@@ -6,7 +6,6 @@
 //! program does with its words.
 #![tactic(auto)]
 
-mod cells;
 mod desk;
 mod dumping;
 mod english;
@@ -16,6 +15,7 @@ mod lines;
 mod passing;
 mod refused;
 mod scopes;
+mod sheets;
 mod stages;
 mod standing;
 mod taken;
