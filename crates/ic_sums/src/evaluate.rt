@@ -1,0 +1,102 @@
+//! The values of all formulas of a book.
+
+use crate::grid::{Grid, Place, State, constants};
+use crate::tree::Evaluator;
+use crate::value::{Fault, Value};
+use ic_book::{BookError, Model};
+use ic_cells::{ErrorNote, FormulaValue};
+use ic_laws::{Amount, Boxed, Error};
+use std::alloc::Global;
+
+/// More turns than any machine makes.
+const TURNS: u64 = u64::MAX;
+
+/// The value of the formula in a cell.
+#[derive(Drop)]
+struct Found {
+    place: Place,
+    value: FormulaValue,
+}
+
+/// Gives each formula of a book its value. Only memory can be missing; some formulas may have their values then.
+pub fn evaluate(alloc: Global, model: &mut Model<'_>) -> Result<(), BookError> {
+    for found in found_values(alloc, model)? {
+        let Found { place, value } = found;
+        model.put_formula_value(place.0, place.1, place.2, value)?;
+    }
+    Ok(())
+}
+
+/// The values of the formulas of a book.
+fn found_values(alloc: Global, model: &Model<'_>) -> Result<Vec<Found>, BookError> {
+    let constants = constants(alloc, model)?;
+    let grid = Grid::new(alloc, model, constants.as_slice())?;
+    let places = grid.formulas(alloc)?;
+    let mut evaluator = Evaluator::new(alloc, grid, model);
+    find_all(alloc, &mut evaluator, places.as_slice())?;
+    let mut found = Vec::new(alloc);
+    for place in places {
+        let value = formula_value(alloc, evaluator.grid.state(place))?;
+        found.push(Found { place, value })?;
+    }
+    Ok(found)
+}
+
+/// Finds the values of the formulas at these places. The last place of the path is looked at: where its formula needs others,
+/// they come behind it, and it is looked at again when they are known.
+fn find_all(
+    alloc: Global,
+    evaluator: &mut Evaluator<'_, '_>,
+    places: &[Place],
+) -> Result<(), BookError> {
+    let mut path = Vec::from_slice(alloc, places)?;
+    for _turn in 0..TURNS {
+        let Some(place) = path.last().copied() else {
+            return Ok(());
+        };
+        match evaluator.grid.state(place) {
+            State::Known(_) => {
+                path.pop();
+            }
+            State::New(formula) | State::Open(formula) => {
+                let length = path.len();
+                let value = evaluator.formula(place, formula, &mut path)?;
+                let state = if path.len() == length {
+                    State::Known(value)
+                } else {
+                    State::Open(formula)
+                };
+                evaluator.grid.note(place, state)?;
+            }
+        }
+    }
+    Ok(())
+}
+
+/// The value of a formula as its cell keeps it.
+fn formula_value(alloc: Global, state: State<'_>) -> Result<FormulaValue, BookError> {
+    match state {
+        State::Known(Value::Empty) => Ok(amount_value(0)),
+        State::Known(Value::Number(units)) => Ok(amount_value(units)),
+        State::Known(Value::Boolean(truth)) => Ok(FormulaValue::Boolean(truth)),
+        State::Known(Value::Text(text)) => Ok(FormulaValue::Text(Boxed::from_str(alloc, text)?)),
+        State::Known(Value::Fault(Fault::Error(error))) => Ok(error_value(error)),
+        _ => Ok(FormulaValue::Unevaluated),
+    }
+}
+
+/// A number of so many units.
+fn amount_value(units: i128) -> FormulaValue {
+    match Amount::from_units(units) {
+        Some(amount) => FormulaValue::Number(amount),
+        None => error_value(Error::NUM),
+    }
+}
+
+/// An error of which nothing is noted.
+fn error_value(error: Error) -> FormulaValue {
+    FormulaValue::Error {
+        ei: error,
+        note: ErrorNote::empty(),
+    }
+}
