@@ -200,6 +200,8 @@ impl<'a> Model<'a> {
         ) ∷ [])) }
         ensures valid { IsValidBook self.now.book }
     {
+        // What always holds of a model is known from here on.
+        let _ = &self.contents;
         match self.formula_at(sheet, row, column)? {
             Some(formula) => Ok(Some(self.show(row, column, formula)?)),
             None => Ok(None),
