@@ -1,6 +1,6 @@
 //! What the program does with its words.
 
-use crate::evaluate::evaluate;
+use crate::evaluation::evaluate;
 use ic_book::{BookError, Model};
 use ic_laws::OutOfMemory;
 use ic_laws::scan::{push_char, push_text};

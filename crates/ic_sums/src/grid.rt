@@ -42,14 +42,14 @@ pub(crate) fn constants(alloc: Global, model: &Model<'_>) -> Result<Vec<Constant
     for cell in model.get_all_cells()? {
         let place = (cell.index, cell.row, cell.column);
         if model.formula_at(place.0, place.1, place.2)?.is_none() {
-            constants.push(constant(model, place)?)?;
+            constants.push(read_constant(model, place)?)?;
         }
     }
     Ok(constants)
 }
 
 /// The cell without a formula at a place.
-fn constant(model: &Model<'_>, place: Place) -> Result<Constant, BookError> {
+fn read_constant(model: &Model<'_>, place: Place) -> Result<Constant, BookError> {
     let fault = fault_at(model, place)?;
     let value = model.get_cell_value_by_index(place.0, place.1, place.2)?;
     Ok(Constant {
@@ -137,12 +137,18 @@ impl<'b> Grid<'b> {
         }
     }
 
-    /// The values of the cells of an area that hold something.
-    pub(crate) fn total(&self, so_far: Value<'b>, area: Area, path: &mut Vec<Place>) -> Result<Value<'b>, BookError> {
+    /// A total with the numbers of the cells of an area.
+    pub(crate) fn total(
+        &self,
+        so_far: Value<'b>,
+        area: Area,
+        path: &mut Vec<Place>,
+    ) -> Result<Value<'b>, BookError> {
         let mut total = so_far;
-        let first = (area.sheet, area.row, area.column);
-        let last = (area.sheet, area.last_row, area.last_column);
-        for (place, _) in self.cells.range(first..=last) {
+        for (place, _) in self.cells.range((area.sheet, area.row, area.column)..) {
+            if place.0 != area.sheet || place.1 > area.last_row {
+                break;
+            }
             if place.2 >= area.column && place.2 <= area.last_column {
                 total = total_with(total, self.value(*place, path)?);
             }

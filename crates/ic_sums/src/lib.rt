@@ -7,10 +7,10 @@
 #![tactic(auto)]
 
 mod desk;
-mod evaluate;
+mod evaluation;
 mod grid;
 mod tree;
 mod value;
 
 pub use desk::sums_desk;
-pub use evaluate::evaluate;
+pub use evaluation::evaluate;

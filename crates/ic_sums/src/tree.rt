@@ -4,10 +4,9 @@ use crate::grid::{Grid, Place};
 use crate::value::{Area, ONE, Value, combined, error};
 use ic_book::{BookError, Model};
 use ic_laws::{
-    BinarySign, Bound, Error, Formula, LAST_COLUMN, LAST_ROW, NameKey, NameMention, Position,
-    PrefixSign, RefPart, SheetMention, Text, Tree, WordKind,
+    BinarySign, Bound, Error, Formula, LAST_COLUMN, LAST_ROW, NameKey, NameMention,
+    Place as Reference, Position, PrefixSign, RefPart, SheetMention, Text, Tree, WordKind,
 };
-use ic_laws::Place as Reference;
 use ic_tables::{Tables, find_word};
 use std::alloc::Global;
 
@@ -134,7 +133,11 @@ impl<'b, 'm> Evaluator<'b, 'm> {
         let Some(test) = arguments.get(0) else {
             return Ok(error(Error::VALUE));
         };
-        let test = combined(BinarySign::Unequal, self.single(at, test, path)?, Value::Number(0));
+        let test = combined(
+            BinarySign::Unequal,
+            self.single(at, test, path)?,
+            Value::Number(0),
+        );
         let Value::Boolean(holds) = test else {
             return Ok(test);
         };
