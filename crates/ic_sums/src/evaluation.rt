@@ -1,4 +1,8 @@
 //! The values of all formulas of a book.
+ghost use Rattle.std.specs.Prelude.{◌≡◌};
+ghost use Rattle.ic_book.specs.Book.{core_of};
+ghost use Rattle.ic_book.specs.Whole.{whole_of};
+ghost use Rattle.ic_sums.specs.Evaluated.{OnlyValues};
 
 use crate::grid::{Grid, Place, State, constants};
 use crate::tree::Evaluator;
@@ -18,13 +22,28 @@ struct Found {
     value: FormulaValue,
 }
 
-/// Gives each formula of a book its value. Only memory can be missing; some formulas may have their values then.
-pub fn evaluate(alloc: Global, model: &mut Model<'_>) -> Result<(), BookError> {
+/// Gives each formula of a book its value. Where memory runs out some formulas have theirs, and the others don't.
+///
+/// Whatever it answers, only values of formulas differ from before, and what their arrays gave to other cells: each other cell
+/// is as it was, and so are all formulas and all else that the book holds.
+pub fn evaluate(alloc: Global, model: &mut Model<'_>) -> Result<(), BookError>
+    ensures only_values { OnlyValues (whole_of model.old.book) (whole_of model.new.book) }
+    ensures core { core_of model.new.book ≡ core_of model.old.book }
+    ensures looks_up { model.new.has_all ≡ model.old.has_all }
+{
     for found in found_values(alloc, model)? {
-        let Found { place, value } = found;
-        model.put_formula_value(place.0, place.1, place.2, value)?;
+        put(model, found)?;
     }
     Ok(())
+}
+
+/// Gives a formula its value.
+fn put(model: &mut Model<'_>, found: Found) -> Result<(), BookError>
+    ensures only_values { OnlyValues (whole_of model.old.book) (whole_of model.new.book) }
+    ensures looks_up { model.new.has_all ≡ model.old.has_all }
+{
+    let Found { place, value } = found;
+    model.put_formula_value(place.0, place.1, place.2, value)
 }
 
 /// The values of the formulas of a book.
