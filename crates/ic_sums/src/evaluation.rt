@@ -4,7 +4,7 @@ ghost use Rattle.ic_book.specs.Book.{core_of};
 ghost use Rattle.ic_book.specs.Whole.{whole_of};
 ghost use Rattle.ic_sums.specs.Evaluated.{OnlyValues};
 
-use crate::grid::{Grid, Place, State, constants};
+use crate::cells::{Cells, Place, State, constants};
 use crate::tree::Evaluator;
 use crate::value::{Fault, Value};
 use ic_book::{BookError, Model};
@@ -49,13 +49,13 @@ fn put(model: &mut Model<'_>, found: Found) -> Result<(), BookError>
 /// The values of the formulas of a book.
 fn found_values(alloc: Global, model: &Model<'_>) -> Result<Vec<Found>, BookError> {
     let constants = constants(alloc, model)?;
-    let grid = Grid::new(alloc, model, constants.as_slice())?;
-    let places = grid.formulas(alloc)?;
-    let mut evaluator = Evaluator::new(alloc, grid, model);
+    let cells = Cells::new(alloc, model, constants.as_slice())?;
+    let places = cells.formulas(alloc)?;
+    let mut evaluator = Evaluator::new(alloc, cells, model);
     find_all(alloc, &mut evaluator, places.as_slice())?;
     let mut found = Vec::new(alloc);
     for place in places {
-        let value = formula_value(alloc, evaluator.grid.state(place))?;
+        let value = formula_value(alloc, evaluator.cells.state(place))?;
         found.push(Found { place, value })?;
     }
     Ok(found)
@@ -73,7 +73,7 @@ fn find_all(
         let Some(place) = path.last().copied() else {
             return Ok(());
         };
-        match evaluator.grid.state(place) {
+        match evaluator.cells.state(place) {
             State::Known(_) => {
                 path.pop();
             }
@@ -85,7 +85,7 @@ fn find_all(
                 } else {
                     State::Open(formula)
                 };
-                evaluator.grid.note(place, state)?;
+                evaluator.cells.note(place, state)?;
             }
         }
     }

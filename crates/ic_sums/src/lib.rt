@@ -6,9 +6,9 @@
 //! source leave, and is what the program does with its words.
 #![tactic(auto)]
 
+mod cells;
 mod desk;
 mod evaluation;
-mod grid;
 mod tree;
 mod value;
 

@@ -1,6 +1,6 @@
 //! The value of a formula, by those of the cells that it needs.
 
-use crate::grid::{Grid, Place};
+use crate::cells::{Cells, Place};
 use crate::value::{Area, ONE, Value, combined, error};
 use ic_book::{BookError, Model};
 use ic_laws::{
@@ -14,7 +14,7 @@ use std::alloc::Global;
 #[derive(Drop)]
 pub(crate) struct Evaluator<'b, 'm> {
     alloc: Global,
-    pub grid: Grid<'b>,
+    pub cells: Cells<'b>,
     model: &'b Model<'m>,
     sum: Option<usize>,
     condition: Option<usize>,
@@ -22,11 +22,11 @@ pub(crate) struct Evaluator<'b, 'm> {
 
 impl<'b, 'm> Evaluator<'b, 'm> {
     /// By these cells of a book.
-    pub(crate) fn new(alloc: Global, grid: Grid<'b>, model: &'b Model<'m>) -> Evaluator<'b, 'm> {
+    pub(crate) fn new(alloc: Global, cells: Cells<'b>, model: &'b Model<'m>) -> Evaluator<'b, 'm> {
         let english = model.tables().get_default_language();
         Evaluator {
             alloc,
-            grid,
+            cells,
             model,
             sum: find_word(english, WordKind::Function, "SUM"),
             condition: find_word(english, WordKind::Function, "IF"),
@@ -56,7 +56,7 @@ impl<'b, 'm> Evaluator<'b, 'm> {
     ) -> Result<Value<'b>, BookError> {
         match self.value(at, tree, path)? {
             Value::Area(area) if area.is_cell() => {
-                self.grid.value((area.sheet, area.row, area.column), path)
+                self.cells.value((area.sheet, area.row, area.column), path)
             }
             Value::Area(_) => Ok(error(Error::VALUE)),
             value => Ok(value),
@@ -115,7 +115,7 @@ impl<'b, 'm> Evaluator<'b, 'm> {
         let mut total = Value::Number(0);
         for argument in arguments {
             total = match self.value(at, argument, path)? {
-                Value::Area(area) => self.grid.total(total, area, path)?,
+                Value::Area(area) => self.cells.total(total, area, path)?,
                 value => combined(BinarySign::Plus, total, value),
             };
         }

@@ -32,8 +32,8 @@ pub(crate) enum State<'b> {
 
 /// The cells of a book that hold something.
 #[derive(Drop)]
-pub(crate) struct Grid<'b> {
-    cells: BTreeMap<Place, State<'b>>,
+pub(crate) struct Cells<'b> {
+    states: BTreeMap<Place, State<'b>>,
 }
 
 /// The cells without a formula.
@@ -77,29 +77,29 @@ fn error_named(tables: &Tables, code: &str, word: &str) -> Option<Error> {
     error_at(find_word(language, WordKind::Error, word)?)
 }
 
-impl<'b> Grid<'b> {
+impl<'b> Cells<'b> {
     /// The cells of a book whose constants are these.
     pub(crate) fn new(
         alloc: Global,
         model: &'b Model<'_>,
         constants: &'b [Constant],
-    ) -> Result<Grid<'b>, BookError> {
-        let mut cells = BTreeMap::new(alloc);
+    ) -> Result<Cells<'b>, BookError> {
+        let mut states = BTreeMap::new(alloc);
         for constant in constants {
-            cells.insert(constant.place, State::Known(constant.value()))?;
+            states.insert(constant.place, State::Known(constant.value()))?;
         }
         for cell in model.get_all_cells()? {
             if let Some(formula) = model.formula_at(cell.index, cell.row, cell.column)? {
-                cells.insert((cell.index, cell.row, cell.column), State::New(formula))?;
+                states.insert((cell.index, cell.row, cell.column), State::New(formula))?;
             }
         }
-        Ok(Grid { cells })
+        Ok(Cells { states })
     }
 
     /// The places of the formulas.
     pub(crate) fn formulas(&self, alloc: Global) -> Result<Vec<Place>, BookError> {
         let mut places = Vec::new(alloc);
-        for (place, state) in self.cells.iter() {
+        for (place, state) in self.states.iter() {
             if let State::New(_) = state {
                 places.push(*place)?;
             }
@@ -109,7 +109,7 @@ impl<'b> Grid<'b> {
 
     /// What is known of the cell at a place.
     pub(crate) fn state(&self, place: Place) -> State<'b> {
-        match self.cells.get(&place) {
+        match self.states.get(&place) {
             Some(state) => *state,
             None => State::Known(Value::Empty),
         }
@@ -117,7 +117,7 @@ impl<'b> Grid<'b> {
 
     /// Notes what is known of the cell at a place now.
     pub(crate) fn note(&mut self, place: Place, state: State<'b>) -> Result<(), BookError> {
-        self.cells.insert(place, state)?;
+        self.states.insert(place, state)?;
         Ok(())
     }
 
@@ -145,7 +145,7 @@ impl<'b> Grid<'b> {
         path: &mut Vec<Place>,
     ) -> Result<Value<'b>, BookError> {
         let mut total = so_far;
-        for (place, _) in self.cells.range((area.sheet, area.row, area.column)..) {
+        for (place, _) in self.states.range((area.sheet, area.row, area.column)..) {
             if place.0 != area.sheet || place.1 > area.last_row {
                 break;
             }
