@@ -1,23 +1,17 @@
 -- What is asked for doesn't hang on the moment when the book was made.
-use Rattle.std.proofs.Common.{◌≡◌, ℕ, List, [], ◌∷◌, refl, sym, ap, ◌∙◌}
+use Rattle.std.proofs.Common.{◌≡◌, ℕ, List, [], refl, sym, ap, ◌∙◌}
 use Rattle.ic_laws.specs.Lines.{texts_of}
 use Rattle.ic_tables.specs.Tables.{TableSet}
 use Rattle.ic_cells.specs.declared.workbook.Metadata.{Metadata}
 use Rattle.ic_machine.specs.Book.{Book}
-use Rattle.ic_machine.specs.Run.{after}
-use Rattle.ic_machine.specs.Translation.{left_after}
-use Rattle.ic_machine.proofs.MetadataFree.{left_same, with_metadata}
+use Rattle.ic_machine.proofs.MetadataFree.{with_metadata}
 use Rattle.ic_book.specs.Book as held
 use Rattle.ic_book.specs.Book.{metadata_made}
 use Rattle.ic_book.specs.Whole.{whole_of}
-use Rattle.ic_run.specs.Core.{whole_machine}
 use Rattle.ic_run.specs.Make.{made_start}
+use Rattle.ic_run.proofs.MomentLemmas.{after_anytime}
 use Rattle.ic_run.specs.Prepared.{IsBookAfter, book_after}
 use Rattle.ic_audit.specs.Asked.{OfName, OfSheet, Question, sites_asked}
-
-after_anytime : (m : Metadata) (book : Book) (lines : List (List ℕ)) → after whole_machine (with_metadata m book) lines ≡ with_metadata m (after whole_machine book lines)
-after_anytime m book [] = refl
-after_anytime m book (line ∷ lines) = ap (λ (b : Book). after whole_machine b lines) (sym (left_same m book line)) ∙ after_anytime m (left_after book line) lines
 
 no_metadata : (question : Question) (m : Metadata) (book : Book) → sites_asked question (with_metadata m book) ≡ sites_asked question book
 no_metadata (OfSheet name) m book = refl

@@ -406,6 +406,10 @@ module _ (inside : Inside) (h : IsHeld inside) where
     formula_of_is row column at =
         ap (option_and_then (λ (sheet : CoreSheet). formula_at sheet.cells row column)) (slice_get-map sheet_core book.sheets index ∙ ap (option_map sheet_core) (in_book at))
 
+    -- and all that stand in it
+    pub cells_are : slice_get ws index ≡ Some s → option_map (λ (sheet : CoreSheet). sheet.cells) (slice_get (core_of book).sheets index) ≡ Some (cells_of s.pool.formulas (finite.entries s.grid.cells))
+    cells_are at = ap (option_map (λ (sheet : CoreSheet). sheet.cells)) (slice_get-map sheet_core book.sheets index ∙ ap (option_map sheet_core) (in_book at))
+
   pub pool_at_is : (index : ℕ) → sheets.pool_at ws index ≡ pool_at book index
   pool_at_is index = ap (λ o. unwrap_or o []) (sym (ap (option_map (λ (s : Sheet). s.pool)) (slice_get-map sheet_of ws index) ∙ option_map-twice sheet_of (λ (s : Sheet). s.pool) (slice_get ws index)))
 

@@ -30,6 +30,7 @@ pub mod HeldLemmas
 pub mod InForceLemmas
 pub mod InsertedDoes
 pub mod InsertedHeld
+pub mod LentLemmas
 pub mod LineLemmas
 pub mod LookUpLemmas
 pub mod MarkupLemmas

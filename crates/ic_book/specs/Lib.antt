@@ -11,6 +11,7 @@ pub mod Fields
 pub mod Filled
 pub mod HandedIn
 pub mod Inside
+pub mod Lent
 pub mod LookUps
 pub mod Markup
 pub mod Mentioned

@@ -3,7 +3,7 @@ ghost use Rattle.std.specs.Prelude.{◌≡◌};
 use crate::MentionSite;
 use ic_grid::GridError;
 use ic_laws::{Items, OutOfMemory};
-use std::alloc::AllocFailed;
+use std::alloc::{AllocError, AllocFailed};
 use std::fmt;
 use thiserror::Error;
 
@@ -211,6 +211,17 @@ impl From<GridError> for BookError {
             GridError::SpillBlocked { row, column } => BookError::SpillBlocked { row, column },
             GridError::OutOfMemory => BookError::OutOfMemory,
         }
+    }
+}
+
+impl From<AllocError> for BookError {
+    ghost use Rattle.std.specs.Prelude.{◌≡◌};
+    ghost use Rattle.ic_book.specs.declared.error.BookError.TheVariants as errors;
+
+    ghost from_gives = { λ _ e. e ≡ errors.OutOfMemory };
+
+    fn from(_: AllocError) -> BookError {
+        BookError::OutOfMemory
     }
 }
 

@@ -200,13 +200,12 @@ impl<'a> Model<'a> {
         ) ∷ [])) }
         ensures valid { IsValidBook self.now.book }
     {
-        let Some(worksheet) = self.contents.sheets.as_slice().get(sheet as usize) else {
-            return Err(BookError::InvalidSheet);
-        };
-        let Some(formula) = formula_at(worksheet, row, column) else {
-            return Ok(None);
-        };
-        Ok(Some(self.show(row, column, formula)?))
+        // What always holds of a model is known from here on.
+        let _ = &self.contents;
+        match self.formula_at(sheet, row, column)? {
+            Some(formula) => Ok(Some(self.show(row, column, formula)?)),
+            None => Ok(None),
+        }
     }
 
     /// The formula of a text in a cell of the sheet with this id.

@@ -300,7 +300,7 @@ impl<'a> Model<'a> {
     }
 
     /// A formula as it is shown in a notation in the cell at a row and a column, after a sign.
-    fn show_in(
+    pub(crate) fn show_in(
         &self,
         target: &Notation<'_>,
         sign: &str,

@@ -48,7 +48,7 @@ impl<'a> Model<'a> {
         let theme = copy_text(alloc, &about.theme)?;
         let styles = copy_styles(alloc, &self.lists.styles)?;
         let shared_strings = copy_texts(alloc, self.lists.strings.as_items().as_slice())?;
-        let defined_names = self.defined_names(self.contents.definitions.as_slice())?;
+        let defined_names = Items::from(self.defined_names()?);
         let worksheets = self.worksheets(self.contents.sheets.as_slice())?;
         Ok(Workbook {
             name,
@@ -63,15 +63,18 @@ impl<'a> Model<'a> {
     }
 
     /// The records of definitions.
-    fn defined_names(&self, definitions: &[Definition]) -> Result<Items<DefinedName>, OutOfMemory>
-        ensures { IfOk result (λ names. names
+    pub(crate) fn records_of(
+        &self,
+        definitions: &[Definition],
+    ) -> Result<Vec<DefinedName>, OutOfMemory>
+        ensures { IfOk result (λ names. names.items
             ≡ map (defined_name_of self.now.book) definitions.now) }
     {
         let mut out = Vec::new(self.alloc);
         for definition in definitions {
             out.push(self.defined_name(definition)?)?;
         }
-        Ok(Items::from(out))
+        Ok(out)
     }
 
     /// The record of a definition.

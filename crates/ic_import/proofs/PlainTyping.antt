@@ -1,40 +1,25 @@
 -- Typing into a book without merged cells and arrays of several cells: no field is refused, and the book stays so.
-use Rattle.std.proofs.Common.{◌≡◌, ◌<◌, ℕ, pos, List, [], ◌∷◌, ◌++◌, Bool, true, false, cond, not, ◌&&◌, Option, Some, None, Ok, slice_get, length, chars, refl, sym, ap, subst, ◌∙◌, arith}
+use Rattle.std.proofs.Common.{◌≡◌, ◌<◌, ℕ, List, [], ◌∷◌, ◌++◌, Bool, true, false, cond, not, ◌&&◌, Option, Some, None, Ok, slice_get, length, chars, refl, sym, ap, subst, ◌∙◌, arith}
 use Rattle.ic_laws.proofs.core.Lists.{all_updated, length_updated}
 use Rattle.ic_laws.specs.CoreBook.{CellPlace}
 use Rattle.ic_laws.specs.Position.{is_column, is_row}
-use Rattle.ic_cells.specs.declared.cell.ArrayKind.TheVariants as arrays
-use Rattle.ic_cells.specs.declared.value.FormulaValue.TheVariants as fvalues
 use Rattle.ic_input.specs.declared.input.Typed.{Typed}
 use Rattle.ic_input.specs.declared.input.Typed.TheVariants as kinds
-use Rattle.ic_grid.specs.Arrays.{anchor_at}
-use Rattle.ic_grid.specs.Block.{Place, same_place}
-use Rattle.ic_grid.specs.Contents.{Contents}
-use Rattle.ic_grid.specs.Prepare.{prepared, released, released_if, unspilled, without_spill, written}
-use Rattle.ic_grid.specs.Shape.{is_anchor, is_loose, is_spill_of, reset}
-use Rattle.ic_machine.proofs.HaveLemmas.{AllHave, all_put, all_remade}
+use Rattle.ic_grid.specs.Shape.{is_loose}
 use Rattle.ic_machine.proofs.ValidLemmas.{all_at}
-use Rattle.ic_machine.specs.Book.{Book, Grid, Sheet, style_number_at, unless_refused}
-use Rattle.ic_machine.specs.Content as contents
-use Rattle.ic_machine.specs.Content.{Content, held, shape_of}
+use Rattle.ic_machine.specs.Book.{Book, Sheet, style_number_at, unless_refused}
+use Rattle.ic_machine.specs.Content.{shape_of}
 use Rattle.ic_machine.specs.InForce.{typed_in}
 use Rattle.ic_machine.specs.Placed.{index_in_pool, is_dynamic}
 use Rattle.ic_machine.specs.Styling.{restyled}
 use Rattle.ic_machine.specs.subjects.Writing.{Written, formula_at_place, input_step, place_causes, typed_written, with_content, with_written, write_causes}
-use Rattle.ic_run.proofs.PlainLemmas.{none_fixed}
+use Rattle.ic_run.proofs.PlainLemmas.{loose_formula, none_fixed, written_plain}
 use Rattle.ic_run.specs.Core.{IsPlain, IsPlainBook}
 use Rattle.ic_import.specs.Placed.{first_outside, is_in_sheet, place_of}
 use Rattle.ic_import.specs.Records.{Field}
 use Rattle.ic_import.specs.Typed.{go_on, type_field, typed}
 
 -- What a typed text puts into a cell is no array of several cells. ----
-
-abbrev IsLoose : Place → Content → Type 0
-IsLoose q x = is_loose (shape_of x) ≡ true
-
-loose_formula : (dynamic : Bool) (index style : ℕ) → is_loose (shape_of (cond dynamic (contents.AnchorContent index (pos 1, pos 1) arrays.Dynamic fvalues.Unevaluated style) (contents.FormulaContent index fvalues.Unevaluated style))) ≡ true
-loose_formula true index style = refl
-loose_formula false index style = refl
 
 loose_typed : (b : Book) (s : Sheet) (place : CellPlace) (t : Typed) (style : ℕ) → is_loose (shape_of ((typed_written b s place t).content style)) ≡ true
 loose_typed b s place kinds.Empty style = refl
@@ -45,48 +30,6 @@ loose_typed b s place (kinds.Number amount code) style = refl
 loose_typed b s place (kinds.Boolean truth) style = refl
 loose_typed b s place (kinds.Error e) style = refl
 loose_typed b s place (kinds.Text text) style = refl
-
--- Where it is written, what is prepared for it has none either. ----
-
-one_of : (t : Bool) (q : Place) (x y : Content) → IsLoose q x → IsLoose q y → IsLoose q (cond t x y)
-one_of true q x y p r = p
-one_of false q x y p r = r
-
-loose_as : (q : Place) (x y : Content) → IsLoose q x → (let o : Option Content = Some x in o ≡ Some y) → IsLoose q y
-loose_as q x y p e = let same : x ≡ y = cc in subst (IsLoose q) same p
-
-loose_reset : (q : Place) (x : Content) → IsLoose q x → IsLoose q (reset held x)
-loose_reset q (contents.EmptyContent style) h = refl
-loose_reset q (contents.BoolContent truth style) h = refl
-loose_reset q (contents.NumContent amount style) h = refl
-loose_reset q (contents.ErrContent e style) h = refl
-loose_reset q (contents.TextContent text style) h = refl
-loose_reset q (contents.FormulaContent index value style) h = refl
-loose_reset q (contents.AnchorContent index area kind value style) h = refl
-loose_reset q (contents.SpillContent anchor value style) h = h
-
-abbrev AllLoose : Contents Content → Type 0
-AllLoose m = AllHave held IsLoose m
-
-loose_without : (a : Place) (m : Contents Content) → AllLoose m → AllLoose (without_spill held a m)
-loose_without a m all =
-    all_remade held IsLoose _ (λ q x p y e. loose_as q (unspilled held a x) y (one_of (is_spill_of a (shape_of x)) q (contents.EmptyContent (contents.style_of x)) x refl p) e) m all
-
-loose_released : (a : Place) (m : Contents Content) → AllLoose m → AllLoose (released held a m)
-loose_released a m all =
-    all_remade held IsLoose _
-    (λ q x p y e. loose_as q _ y (one_of (same_place q a) q (cond (is_anchor (shape_of x)) (reset held x) x) x (one_of (is_anchor (shape_of x)) q (reset held x) x (loose_reset q x p) p) p) e) (without_spill held a m)
-    (loose_without a m all)
-
-loose_prepared : (o : Option Place) (m : Contents Content) → AllLoose m → AllLoose (released_if held o m)
-loose_prepared None m all = all
-loose_prepared (Some a) m all = loose_released a m all
-
-plain_written : (grid : Grid) (p : Place) (x : Content) → is_loose (shape_of x) ≡ true → IsPlain grid → IsPlain (record grid { contents = written held p x grid.contents })
-plain_written grid p x loose h = record {
-  merges = h.merges;
-  loose = all_put held IsLoose (prepared held p grid.contents) p x (loose_prepared (anchor_at held grid.contents p) grid.contents h.loose) loose;
-}
 
 -- A field that is typed into the first sheet, at a place of it. ----
 
@@ -120,7 +63,7 @@ goes at field b plain some inside =
     record {
       left = with_written b 0 s place w;
       step = rw found.1 allowed;
-      plain = all_updated (λ (s : Sheet). IsPlain s.grid) (λ old. with_content place w.pool (w.content number) s) (λ old h. plain_written s.grid place (w.content number) (loose_typed b s place (typed_in b (chars field.bytes)) number) its) 0 b.sheets plain;
+      plain = all_updated (λ (s : Sheet). IsPlain s.grid) (λ old. with_content place w.pool (w.content number) s) (λ old h. written_plain s.grid place (w.content number) (loose_typed b s place (typed_in b (chars field.bytes)) number) its) 0 b.sheets plain;
       some = subst (λ (n : ℕ). 0 < n) (sym (length_updated (λ old. with_content place w.pool (w.content number) s) 0 b.sheets)) some;
     }
 

@@ -9,6 +9,7 @@ pub mod DeskLemmas
 pub mod LeftLemmas
 pub mod MadeLemmas
 pub mod MakeLemmas
+pub mod MomentLemmas
 pub mod PlainLemmas
 pub mod RefinedRuns
 pub mod RetoldLemmas

@@ -102,7 +102,11 @@ prepared_loose : (o : Option Place) (m : Contents Content) → AllLoose m → Al
 prepared_loose None m all = all
 prepared_loose (Some a) m all = released_loose a m all
 
-written_plain : (grid : Grid) (p : Place) (x : Content) → is_loose (shape_of x) ≡ true → IsPlain grid → IsPlain (record grid { contents = written held p x grid.contents })
+pub loose_formula : (dynamic : Bool) (index style : ℕ) → is_loose (shape_of (cond dynamic (contents.AnchorContent index (pos 1, pos 1) arrays.Dynamic fvalues.Unevaluated style) (contents.FormulaContent index fvalues.Unevaluated style))) ≡ true
+loose_formula true index style = refl
+loose_formula false index style = refl
+
+pub written_plain : (grid : Grid) (p : Place) (x : Content) → is_loose (shape_of x) ≡ true → IsPlain grid → IsPlain (record grid { contents = written held p x grid.contents })
 written_plain grid p x loose h = record {
   merges = h.merges;
   loose = all_put held IsLoose (prepared held p grid.contents) p x (prepared_loose (anchor_at held grid.contents p) grid.contents h.loose) loose;
@@ -168,10 +172,6 @@ module _ (b : Book) (plain : IsPlainBook b) where
       let its : IsPlain s.grid = all_at (λ (s : Sheet). IsPlain s.grid) index b.sheets s plain at in
       all_updated (λ (s : Sheet). IsPlain s.grid) (λ old. with_content place w.pool (w.content number) s)
       (λ old h. written_plain s.grid place (w.content number) (loose_formula (is_dynamic b.tables.kinds formula) (index_in_pool formula s.pool) number) its) index b.sheets plain
-    where
-      loose_formula : (dynamic : Bool) (index style : ℕ) → is_loose (shape_of (cond dynamic (contents.AnchorContent index (pos 1, pos 1) arrays.Dynamic fvalues.Unevaluated style) (contents.FormulaContent index fvalues.Unevaluated style))) ≡ true
-      loose_formula true index style = refl
-      loose_formula false index style = refl
 
   -- each command of the identity machine leaves such a book
   pub stays_plain : (k : core.Command) → IsPlainBook (outcome_of b (step b (whole_command k))).0

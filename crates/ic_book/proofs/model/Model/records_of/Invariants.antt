@@ -1,6 +1,6 @@
 use Rattle.std.proofs.Common.{◌≡◌, take, map}
 use Rattle.ic_book.specs.Workbook.{defined_name_of}
-use Rattle.ic_book.proofs.model.Model.defined_names.Given as goal
+use Rattle.ic_book.proofs.model.Model.records_of.Given as goal
 
 -- those so far
 abbrev pub invariant-loop-definition : goal.invariant-loop-definition
