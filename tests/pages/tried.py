@@ -1,10 +1,10 @@
 #!/usr/bin/env python3
-"""Tries what docs/GUIDE.md says by example of the shared book and of records.
+"""Tries what docs/GUIDE.md says by example of the shared book, of records and of dumps.
 
-  tests/pages/tried.py SHARE IMPORT    the two programs, ic_share_desk and ic_import_desk
+  tests/pages/tried.py SHARE IMPORT DUMP    the programs, ic_share_desk, ic_import_desk and ic_dump_desk
 
 The lines of users with their replies, the bank's file with its sheet, each row of bytes with its records, and both gateways:
-the named pipe, and sockets, where socat is installed. It prints what comes out otherwise, and ends with 1 where something does."""
+the named pipe, and sockets, where socat is installed; the dump of a book, and of that dump. It prints what comes out otherwise, and ends with 1 where something does."""
 import os
 import re
 import shutil
@@ -100,11 +100,18 @@ def try_records(program):
             same(given, sheet_of(records_of(told)), run(program, bytes_of(given)))
 
 
-if len(sys.argv) != 3:
+def try_dump(program):
+    lines, told = (it.replace("→", "\t") for it in blocks(section("A book as text"))[:2])
+    same("the dump of a book", told, run(program, lines))
+    same("the dump of a dump", told, run(program, told))
+
+
+if len(sys.argv) != 4:
     sys.exit(__doc__)
-share, imports = (os.path.realpath(it) for it in sys.argv[1:])
+share, imports, dump = (os.path.realpath(it) for it in sys.argv[1:])
 try_users(share)
 try_gateways(share)
 try_records(imports)
+try_dump(dump)
 print("examples of the guide:", f"{wrong} wrong" if wrong else "all as told")
 sys.exit(wrong > 0)
