@@ -6,6 +6,7 @@
 The lines of users with their replies, the bank's file with its sheet, each row of bytes with its records, the values of
 formulas, and both gateways: the named pipe, and sockets, where socat is installed. It prints what comes out otherwise, and ends
 with 1 where something does."""
+  tests/pages/tried.py SHARE IMPORT DUMP    the programs, ic_share_desk, ic_import_desk and ic_dump_desk
 import os
 import re
 import shutil
