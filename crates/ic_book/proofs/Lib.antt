@@ -5,6 +5,7 @@ pub mod ArrayLemmas
 pub mod ArrayWritten
 pub mod AskedLemmas
 pub mod AskedSheets
+pub mod BlankRows
 pub mod BookLemmas
 pub mod BookValid
 pub mod CellReads

@@ -29,7 +29,7 @@ use Rattle.ic_machine.specs.Reply.{Field, text_field}
 use Rattle.ic_machine.specs.subjects.Reading.{content_markup, emphasized, formatted_content, formula_text, sheet_markup}
 use Rattle.ic_sheets.specs.Sheet.{Sheet}
 use Rattle.ic_book.specs.Book.{Book, IsValidBook, ModelState, core_of, notations_in}
-use Rattle.ic_book.specs.Markup.{last_of, plain_shown, row_shown, sheet_shown}
+use Rattle.ic_book.specs.Markup.{last_of, plain_shown, row_behind, row_shown, sheet_shown}
 use Rattle.ic_book.specs.Shown.{StandsIn}
 use Rattle.ic_book.specs.Whole.{whole_of, whole_sheet}
 use Rattle.ic_book.proofs.WholeLemmas.{whole_core}
@@ -152,7 +152,7 @@ up_to (negsuc k) most e = absurd (grind (arith, ints, nat_tests, e))
 
 -- the places of a sheet's cells
 -- so their numbers are as small as a row and a column
-pub row_small : (n : ℕ) → n ≤ row_count → to_z w32 n ≡ pos n
+pub row_small : (n : ℕ) → n ≤ row_behind → to_z w32 n ≡ pos n
 row_small n h = to_z_pos w32 n (omega (arith, h))
 
 pub column_small : (n : ℕ) → n ≤ column_count → to_z w32 n ≡ pos n

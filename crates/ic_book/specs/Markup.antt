@@ -1,8 +1,12 @@
 -- A sheet as a table, as a model has it.
-use Rattle.std.specs.Prelude.{ℕ, ℤ, max, nat_abs, List, [], Bool, map}
+use Rattle.std.specs.Prelude.{◌≡◌, ◌+◌, ◌≤ℤ◌, ℕ, ℤ, pos, max, nat_abs, List, [], Bool, None, map, option_and_then}
+use Rattle.std.specs.FinMap as finite
 use Rattle.std.specs.Option.{option_map_or}
 use Rattle.ic_laws.specs.CoreBook.{CellPlace}
 use Rattle.ic_laws.specs.Greatest.{greatest}
+use Rattle.ic_laws.specs.Position.{row_count}
+use Rattle.ic_cells.specs.declared.layout.RowProps.{RowProps}
+use Rattle.ic_grid.specs.declared.grid.Grid.{Grid}
 use Rattle.ic_machine.specs.Book.{content_at}
 use Rattle.ic_machine.specs.subjects.Reading.{cell_markup, content_markup, is_bold, row_markup, sheet_markup}
 use Rattle.ic_sheets.specs.Sheet.{Sheet}
@@ -31,3 +35,12 @@ shows_bold book s place = is_bold (whole_of book) (whole_sheet book.strings s) p
 -- the greatest row and column of some places, and 1 where there is none
 abbrev pub last_of : List CellPlace → ℕ × ℕ
 last_of places = (max 1 (greatest (map (λ p. nat_abs p.0) places)), max 1 (greatest (map (λ p. nat_abs p.1) places)))
+
+-- the row behind the last one of a sheet
+abbrev pub row_behind : ℕ
+row_behind = row_count + 1
+
+-- no cell stands in a row, and the row has no style
+pub record IsBlankRow (grid : Grid) (row : ℤ) : Type 0 where
+  pub free : (column : ℤ) → pos 1 ≤ℤ column → finite.get grid.cells (row, column) ≡ None
+  pub plain : option_and_then (λ (props : RowProps). props.style) (finite.get grid.rows row) ≡ None

@@ -1,26 +1,31 @@
 //! A sheet as a table of texts.
-ghost use Rattle.std.specs.Prelude.{◌≡◌, ◌<◌, ◌≤◌, ◌++◌, [], ◌∷◌, IfOk, OnOk, Some, chars, length, string_bytes};
+ghost use Rattle.std.specs.Prelude.{◌≡◌, ◌<◌, ◌≤◌, ◌≤ℤ◌, ◌++◌, [], ◌∷◌, ℤ, pos, IfNone, IfOk, IfSome, IsTrue, OnOk, None, Some, chars, length, string_bytes};
 ghost use Rattle.std.specs.BTreeMap.{IsOrdered, keys};
 ghost use Rattle.std.specs.FinMap as finite;
 ghost use Rattle.std.specs.List.{join_by, range_with_len};
 ghost use Rattle.ic_cells.specs.Maps.{place_cmp};
 ghost use Rattle.ic_cells.specs.Style.{style_at};
+ghost use Rattle.ic_grid.specs.Walk.{HasNone, IsFirst};
 ghost use Rattle.ic_laws.specs.Character.{line_feed};
 ghost use Rattle.ic_laws.specs.Position.{column_count, row_count};
 ghost use Rattle.ic_machine.specs.subjects.Reading.{GetSheetMarkup, emphasized, reading_step};
 ghost use Rattle.ic_sheets.specs.Sheet.{sheet_of};
 ghost use Rattle.ic_book.specs.Does.{Does};
 ghost use Rattle.ic_book.specs.Fields.{string_only};
-ghost use Rattle.ic_book.specs.Markup.{last_of, place_shown, plain_shown, row_shown, sheet_shown, shows_bold};
+ghost use Rattle.ic_book.specs.Markup.{IsBlankRow, last_of, place_shown, plain_shown, row_behind, row_shown, sheet_shown, shows_bold};
 ghost use Rattle.ic_book.specs.Shown.{StandsIn};
 
 use crate::content::formula_in;
 use crate::{BookError, Model};
-use ic_cells::Cell;
+use ic_cells::{Cell, PlaceMap};
+use ic_grid::Grid;
 use ic_laws::OutOfMemory;
 use ic_laws::scan::{push_char, push_text};
 use ic_sheets::Sheet;
 use std::collections::BTreeMap;
+
+/// The row behind the last one of a sheet.
+const ROW_BEHIND: u32 = 1_048_577;
 
 impl<'a> Model<'a> {
     /// The sheet at an index, from 0, as a table: the cells of a row with `|` between them, and the rows with line feeds, up
@@ -48,38 +53,80 @@ impl<'a> Model<'a> {
         // What always holds of a model is known from here on.
         let _ = &self.contents;
         let (rows, columns) = last_of(worksheet.grid.cells.as_map());
-        let mut text = String::new(self.alloc);
-        self.push_rows(&mut text, worksheet, rows, columns)?;
+        let blank = self.blank_row(worksheet, columns)?;
+        let mut text = String::with_capacity(self.alloc, separators_in(rows, columns))?;
+        self.push_rows(&mut text, worksheet, rows, columns, blank.as_str())?;
         Ok(text)
     }
 
-    /// Appends the rows of a sheet up to this row and this column.
+    /// What is shown up to this column of each row in which no cell stands and that has no style, as of the one behind the
+    /// sheet.
+    fn blank_row(&self, worksheet: &Sheet, columns: u32) -> Result<String, OutOfMemory>
+        requires stands { StandsIn (sheet_of worksheet.now) self.now.book }
+        requires columns { (1 ≤ columns) × (columns ≤ column_count) }
+        ensures { IfOk result (λ s. chars (string_bytes s)
+            ≡ row_shown self.now.book (sheet_of worksheet.now) columns row_behind) }
+    {
+        let mut text = String::new(self.alloc);
+        self.push_row_places(&mut text, worksheet, ROW_BEHIND, columns)?;
+        Ok(text)
+    }
+
+    /// Appends the rows of a sheet up to this row and this column, given what is shown of one that is blank.
     fn push_rows(
         &self,
         text: &mut String,
         worksheet: &Sheet,
         rows: u32,
         columns: u32,
+        blank: &str,
     ) -> Result<(), OutOfMemory>
         requires stands { StandsIn (sheet_of worksheet.now) self.now.book }
         requires rows { (1 ≤ rows) × (rows ≤ row_count) }
         requires columns { (1 ≤ columns) × (columns ≤ column_count) }
+        requires blank { chars blank.now
+            ≡ row_shown self.now.book (sheet_of worksheet.now) columns row_behind }
         ensures { OnOk result (chars (string_bytes text.new) ≡ chars (string_bytes text.old)
             ++ join_by (row_shown self.now.book (sheet_of worksheet.now) columns)
             (line_feed ∷ []) (range_with_len 1 rows)) }
     {
-        self.push_row(text, worksheet, 1, columns)?;
+        self.push_row(text, worksheet, 1, columns, blank)?;
         let mut row = 1;
         'rows: while row < rows {
             row += 1;
             push_char(text, '\n')?;
-            self.push_row(text, worksheet, row, columns)?;
+            self.push_row(text, worksheet, row, columns, blank)?;
         }
         Ok(())
     }
 
-    /// Appends a row of a sheet up to this column.
+    /// Appends a row of a sheet up to this column, given what is shown of one that is blank.
     fn push_row(
+        &self,
+        text: &mut String,
+        worksheet: &Sheet,
+        row: u32,
+        columns: u32,
+        blank: &str,
+    ) -> Result<(), OutOfMemory>
+        requires stands { StandsIn (sheet_of worksheet.now) self.now.book }
+        requires row { row ≤ row_count }
+        requires columns { (1 ≤ columns) × (columns ≤ column_count) }
+        requires blank { chars blank.now
+            ≡ row_shown self.now.book (sheet_of worksheet.now) columns row_behind }
+        ensures { OnOk result (chars (string_bytes text.new) ≡ chars (string_bytes text.old)
+            ++ row_shown self.now.book (sheet_of worksheet.now) columns row) }
+    {
+        // What always holds of a model is known from here on.
+        let _ = &self.contents;
+        if is_blank_row(&worksheet.grid, row as i32) {
+            return push_text(text, blank);
+        }
+        self.push_row_places(text, worksheet, row, columns)
+    }
+
+    /// Appends the places of a row up to this column.
+    fn push_row_places(
         &self,
         text: &mut String,
         worksheet: &Sheet,
@@ -87,7 +134,7 @@ impl<'a> Model<'a> {
         columns: u32,
     ) -> Result<(), OutOfMemory>
         requires stands { StandsIn (sheet_of worksheet.now) self.now.book }
-        requires row { row ≤ row_count }
+        requires row { row ≤ row_behind }
         requires columns { (1 ≤ columns) × (columns ≤ column_count) }
         ensures { OnOk result (chars (string_bytes text.new) ≡ chars (string_bytes text.old)
             ++ row_shown self.now.book (sheet_of worksheet.now) columns row) }
@@ -200,4 +247,40 @@ fn last_of(cells: &BTreeMap<(i32, i32), Cell>) -> (u32, u32)
         column = column.max(place.1.unsigned_abs());
     }
     (row, column)
+}
+
+/// How many separators stand in a table of so many rows and columns: as many bytes as it has at least.
+fn separators_in(rows: u32, columns: u32) -> usize {
+    (rows as usize)
+        .saturating_mul(columns as usize)
+        .saturating_sub(1)
+}
+
+/// Whether no cell stands in a row, and the row has no style.
+fn is_blank_row(grid: &Grid, row: i32) -> bool
+    ensures { IsTrue result → IsBlankRow grid.now row }
+{
+    grid.row_style(row).is_none() && is_empty_row(&grid.cells, row)
+}
+
+/// Whether no cell stands in a row, from column 1 on.
+fn is_empty_row(cells: &PlaceMap<Cell>, row: i32) -> bool
+    ensures { IsTrue result → (column : ℤ) → pos 1 ≤ℤ column
+        → finite.get cells.now (row, column) ≡ None }
+{
+    match first_from(cells, (row, 1)) {
+        Some(place) => place.0 != row,
+        None => true,
+    }
+}
+
+/// The first place from one on, by rows, at which a cell stands.
+fn first_from(cells: &PlaceMap<Cell>, from: (i32, i32)) -> Option<(i32, i32)>
+    ensures some { IfSome result (IsFirst (finite.get cells.now) from) }
+    ensures none { IfNone result (HasNone (finite.get cells.now) from) }
+{
+    match cells.as_map().range(from..).next() {
+        Some((place, _)) => Some(*place),
+        None => None,
+    }
 }

@@ -17,6 +17,13 @@ push_rows-requires-clause-rows c =
     rows_within s (its_grid c.args.self.now.book (subst (λ (m : ModelState). IsValidBook m.book) c.self.view_is c.self.invariant.book) c.requires.0 s c.requires.1)
     c.last_of-rows.result.0 (ap (λ p. p.0) (c.last_of-rows.ensures.last ∙ ap last_of keys))
 
+pub blank_row-requires-clause-columns : goal.blank_row-requires-clause-columns
+blank_row-requires-clause-columns c =
+    let s = sheet_of c.args.worksheet.now in
+    let keys = same_keys c.as_map.result.now s.grid.cells c.last_of-rows.ensures.ordered c.as_map.ensures in
+    columns_within s (its_grid c.args.self.now.book (subst (λ (m : ModelState). IsValidBook m.book) c.self.view_is c.self.invariant.book) c.requires.0 s c.requires.1)
+    c.last_of-rows.result.1 (ap (λ p. p.1) (c.last_of-rows.ensures.last ∙ ap last_of keys))
+
 pub push_rows-requires-clause-columns : goal.push_rows-requires-clause-columns
 push_rows-requires-clause-columns c =
     let s = sheet_of c.args.worksheet.now in
@@ -29,6 +36,6 @@ returns c =
     let s = sheet_of c.args.worksheet.now in
     let keys = same_keys c.as_map.result.now s.grid.cells c.last_of-rows.ensures.ordered c.as_map.ensures in
     c.in_ok-push_rows.ensures
-    ∙ ap (λ b. chars b ++ join_by (row_shown c.args.self.now.book s c.last_of-rows.result.1) (line_feed ∷ []) (range_with_len 1 c.last_of-rows.result.0)) c.new-text.ensures.bytes
+    ∙ ap (λ b. chars b ++ join_by (row_shown c.args.self.now.book s c.last_of-rows.result.1) (line_feed ∷ []) (range_with_len 1 c.last_of-rows.result.0)) c.in_ok-text.ensures.bytes
     ∙ ap (λ t. t ++ join_by (row_shown c.args.self.now.book s c.last_of-rows.result.1) (line_feed ∷ []) (range_with_len 1 c.last_of-rows.result.0)) chars-nil
     ∙ table_told c.args.self.now.book s c.last_of-rows.result.0 c.last_of-rows.result.1 (ap (λ p. p.0) (c.last_of-rows.ensures.last ∙ ap last_of keys)) (ap (λ p. p.1) (c.last_of-rows.ensures.last ∙ ap last_of keys))
