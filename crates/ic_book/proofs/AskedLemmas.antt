@@ -16,7 +16,7 @@ use Rattle.ic_laws.specs.Scan.{first_is}
 use Rattle.ic_laws.specs.Scene.{same_key}
 use Rattle.ic_laws.specs.declared.tree.Formula.TheVariants as formulas
 use Rattle.ic_cells.specs.declared.workbook.DefinedName.{DefinedName}
-use Rattle.ic_sheets.proofs.ApartLemmas.{AreFine, fine_differ, fine_each, fine_next, fine_start, not_differ, not_each, one_at}
+use Rattle.ic_sheets.proofs.ApartLemmas.{AreFine, fine_next, not_differ, not_each, one_at}
 use Rattle.ic_book.specs.Asked.{AreDefined, IsDefined, key_in, unread}
 
 -- ---- a test of each
@@ -72,15 +72,6 @@ module _ (names : List DefinedName) where
   pub record UnreadTo (i : ℕ) (ds : List Definition) : Type 0 where
     pub made : ds ≡ map unread (take i names)
     pub fine : AreFine same_key_equiv IsDefined key_in names i
-
-  pub unread_start : (ds : List Definition) → ds ≡ [] → UnreadTo 0 ds
-  unread_start ds none = record { made = none; fine = fine_start same_key_equiv IsDefined key_in names }
-
-  pub unread_end : (i : ℕ) (ds : List Definition) → UnreadTo i ds → length names ≤ i → AreDefined names × (ds ≡ map unread names)
-  unread_end i ds done end = (
-    record { each = fine_each same_key_equiv IsDefined key_in names i done.fine end; differ = fine_differ same_key_equiv IsDefined key_in names i done.fine end },
-    done.made ∙ ap (map unread) (take_all i names end),
-  )
 
   module _ (i next : ℕ) (d : DefinedName) (is_next : i + 1 ≡ next) (below : i < length names) (item : d ≡ get_or names i d) (ds : List Definition) (done : UnreadTo i ds) where
     taken_there : list_any (is_named d.name d.sheet_id) ds ≡ list_any (same_key (key_in d)) (map key_in (take i names))

@@ -34,7 +34,7 @@ use Rattle.ic_machine.proofs.AlikeGrid.{entries-seen, get-seen}
 use Rattle.ic_machine.proofs.AlikeLemmas.{cells_are_contents}
 use Rattle.ic_machine.specs.Book as machine
 use Rattle.ic_machine.specs.Content as contents
-use Rattle.ic_machine.specs.Content.{Content, content_of, held}
+use Rattle.ic_machine.specs.Content.{Content, content_of}
 use Rattle.ic_machine.specs.Fields.{fields_of_place, type_field}
 use Rattle.ic_machine.specs.InForce.{InForce, all_there, by_notation, value_in}
 use Rattle.ic_machine.specs.Reply.{Field, bool_field}

@@ -156,11 +156,6 @@ body_put made before new bodies now body len left within last counted put =
     let same : length new ≡ length before = ap length is ∙ length_updated (λ d. record d { body = body }) (length now) before in
     (ap (with_each_body now) is ∙ sym (last_put now body before lt) ∙ ap (λ bs. with_each_body bs before) (sym last) ∙ left, omega (arith, lt, same))
 
-pub body_within : (ds : List Definition) (bodies now : List Formula) (body : Formula) (len : ℕ) → length bodies ≤ length ds → bodies ≡ now ++ body ∷ [] → len ≡ length now → len < length ds
-body_within ds bodies now body len within last counted =
-    let longer : length bodies ≡ length now + 1 = ap length last ∙ length-append now (body ∷ []) in
-    omega (arith, within, longer, counted)
-
 -- each made of its own
 pub each_made : (f : Formula → Formula) (ds : List Definition) → with_each_body (map (λ (d : Definition). f d.body) ds) ds ≡ map (with_formula f) ds
 each_made f [] = refl

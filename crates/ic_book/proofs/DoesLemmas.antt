@@ -11,7 +11,7 @@ use Rattle.ic_laws.specs.Character.{equals}
 use Rattle.ic_laws.specs.Command as commands
 use Rattle.ic_laws.specs.CoreBook.{CoreBook, Definition, fresh_id}
 use Rattle.ic_laws.specs.CoreStep as core
-use Rattle.ic_laws.specs.CoreStep.{add_sheet_refusal, core_step, delete_definition_causes, delete_definition_refusal, delete_refusal, fields_in_scope, formula_of, index_of_definition, index_of_id, index_of_name, is_named, lacks_sheet, list_fields, listed_scope, move_causes, move_refusal, moved, new_definition, new_definition_causes, new_definition_refusal, rename_refusal, scope_or_none, shown_field, with_sheet_name, without_sheet}
+use Rattle.ic_laws.specs.CoreStep.{add_sheet_refusal, core_step, delete_definition_causes, delete_definition_refusal, delete_refusal, fields_in_scope, formula_of, index_of_definition, index_of_id, index_of_name, is_named, lacks_sheet, list_fields, listed_scope, move_refusal, moved, new_definition, new_definition_causes, new_definition_refusal, rename_refusal, scope_or_none, shown_field, with_sheet_name, without_sheet}
 use Rattle.ic_laws.specs.FormulaReading.{Body, body_of, shown_body, shown_formula}
 use Rattle.ic_laws.specs.Notations.{Notations}
 use Rattle.ic_laws.specs.Refusal.{InvalidLanguage, InvalidLocale, InvalidNameFormula, InvalidSheet, Refusal, first_refusal}

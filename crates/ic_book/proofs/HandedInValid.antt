@@ -1,5 +1,5 @@
 -- A model that is made of the records of a workbook holds a valid book, and it is the book that the records stand for.
-use Rattle.std.proofs.Common.{◌≡◌, ◌∙◌, ℕ, List, [], ◌∷◌, Bool, true, false, not, Option, Some, None, is_none, map, length, refl, sym, ap, ap₂, subst}
+use Rattle.std.proofs.Common.{◌≡◌, ◌∙◌, ℕ, List, [], ◌∷◌, Bool, true, not, Option, Some, None, is_none, map, length, refl, sym, ap, ap₂, subst}
 use Rattle.std.specs.Borrow.{Bor}
 use Rattle.std.specs.FinMap as finite
 use Rattle.std.specs.List.{AllByRecursion}
@@ -92,15 +92,9 @@ module _ (w : Workbook) (language : List ℕ) (tables : TableSet) where
     after_locale : notation_refusal w language tables ≡ first_refusal ((not (lists_zone tables w.settings.tz), InvalidTimezone) ∷ (is_none (language_of tables language), InvalidLanguage) ∷ [])
     after_locale = ap (λ (o : Option NamedLocale). first_refusal ((is_none o, InvalidLocale) ∷ (not (lists_zone tables w.settings.tz), InvalidTimezone) ∷ (is_none (language_of tables language), InvalidLanguage) ∷ [])) has_locale
 
-    pub lacks_zone : lists_zone tables w.settings.tz ≡ false → notation_refusal w language tables ≡ Some InvalidTimezone
-    lacks_zone none = after_locale ∙ ap (λ (b : Bool). first_refusal ((not b, InvalidTimezone) ∷ (is_none (language_of tables language), InvalidLanguage) ∷ [])) none
-
     module _ (has_zone : lists_zone tables w.settings.tz ≡ true) where
       after_zone : notation_refusal w language tables ≡ first_refusal ((is_none (language_of tables language), InvalidLanguage) ∷ [])
       after_zone = after_locale ∙ ap (λ (b : Bool). first_refusal ((not b, InvalidTimezone) ∷ (is_none (language_of tables language), InvalidLanguage) ∷ [])) has_zone
-
-      pub lacks_language : language_of tables language ≡ None → notation_refusal w language tables ≡ Some InvalidLanguage
-      lacks_language none = after_zone ∙ ap (λ (o : Option Language). first_refusal ((is_none o, InvalidLanguage) ∷ [])) none
 
       pub lacks_nothing : (g : Language) → language_of tables language ≡ Some g → notation_refusal w language tables ≡ None
       lacks_nothing g has_language = after_zone ∙ ap (λ (o : Option Language). first_refusal ((is_none o, InvalidLanguage) ∷ [])) has_language

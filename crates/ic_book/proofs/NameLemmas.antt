@@ -16,7 +16,7 @@ use Rattle.ic_laws.specs.Notations.{AreNotations, Notations, english}
 use Rattle.ic_laws.specs.Dialect.{DialectMeaning}
 use Rattle.ic_laws.specs.Position.{is_place_within}
 use Rattle.ic_laws.specs.declared.reference.RefToken.{RefToken}
-use Rattle.ic_laws.specs.Refusal.{InvalidName, InvalidNameFormula, InvalidScope, InvalidSheet, NameExists, NameNotFound, Refusal}
+use Rattle.ic_laws.specs.Refusal.{InvalidName, InvalidNameFormula, InvalidScope, InvalidSheet, NameExists, NameNotFound}
 use Rattle.ic_definitions.proofs.NamesFacts.{position_none, some_position}
 use Rattle.ic_sheets.specs.Sheet.{sheet_core, sheet_of}
 use Rattle.ic_sheets.specs.declared.sheet.Sheet.{Sheet as HeldSheet}
@@ -79,11 +79,6 @@ module _ (n : Notations) (core : CoreBook) (name : List ℕ) (index : Option ℕ
   -- where nothing refuses it, no definition has its key
   pub key_free : (id : Option ℕ) → scope_of core index ≡ Some id → new_definition_refusal n core name index text ≡ None → list_any (is_named name id) core.definitions ≡ false
   key_free id scope none = subst (λ s. list_any (is_named name s) core.definitions ≡ false) (scope_is core index id scope) (none_holds (new_definition_causes n core name index text) none).1.1.0
-
--- after the checks only want of memory is left
-pub accepted_then : {T : Type 0} (r : Result T BookError) (refusal : Option Refusal) → refusal ≡ None → IsErr r × IsErrAnd r (λ e. e ≡ errors.OutOfMemory) → RefusesOr InvalidNameFormula r refusal
-accepted_then (Ok value) refusal none h = none
-accepted_then (Err e) refusal none h = inl (none_told none h.1)
 
 -- ---- what refuses a deletion
 

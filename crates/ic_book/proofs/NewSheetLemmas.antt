@@ -6,7 +6,7 @@ use Rattle.std.specs.Fmt.{decimal}
 use Rattle.std.specs.List.{find, list_any, range_with_len}
 use Rattle.std.specs.Prelude.{is_none, unwrap_or}
 use Rattle.ic_laws.specs.CoreBook as core_book
-use Rattle.ic_laws.specs.CoreBook.{CoreBook, fresh_id, has_sheet, names_of}
+use Rattle.ic_laws.specs.CoreBook.{fresh_id, has_sheet, names_of}
 use Rattle.ic_laws.specs.CoreStep.{add_sheet_refusal}
 use Rattle.ic_laws.specs.Name.{agrees, is_sheet_name}
 use Rattle.ic_machine.proofs.NewNames.{base_good, free_of, numbered_good, numbers_apart}
@@ -125,9 +125,6 @@ module _ (old : ModelState) (valid : IsValidBook old.book) where
         let id = some_id (fresh_id (core_of old.book)) some in
         add_accepts (core_of old.book) called id.0 (ap is_sheet_name is ∙ new_is_good whole valid.whole)
         (ap (has_sheet (core_of old.book)) is ∙ ap (λ c. has_sheet c name) (sym (whole_core old.book)) ∙ new_is_free whole valid.whole) id.1
-
-    pub new_good : (called : List ℕ) → called ≡ name → is_sheet_name called ≡ true
-    new_good called is = ap is_sheet_name is ∙ new_is_good whole valid.whole
 
     -- where memory ran out for the sheet
     pub new_failed : {T : Type 0} (fields : T → List Field) (called : List ℕ) → called ≡ name → (e : BookError) → TellsCore e (add_sheet_refusal (core_of old.book) called) → (r : Result T BookError) → IsErr r × IsErrAnd r (λ x. x ≡ e)

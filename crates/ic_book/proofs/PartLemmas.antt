@@ -1,11 +1,9 @@
 -- What a change of a part of a sheet does to the model.
-use Rattle.std.proofs.Common.{◌≡◌, ℕ, ℤ, pos, zero, suc, ◌≤◌, List, [], ◌∷◌, Bool, true, false, length, map, Option, Some, None, Result, Ok, Err, option_map, refl, ap, ap₂, sym, subst, ◌∙◌, nat_lt, rules, arith}
+use Rattle.std.proofs.Common.{◌≡◌, ℕ, zero, suc, ◌≤◌, List, [], ◌∷◌, Bool, true, false, length, map, Option, Some, None, Result, Ok, Err, option_map, refl, ap, ap₂, sym, subst, ◌∙◌, nat_lt, rules, arith}
 use Rattle.std.specs.List.{slice_get}
-use Rattle.std.specs.Prelude.{◌≤ℤ◌, ◌<ℤ◌}
 use Rattle.std.proofs.lemmas.Option.{slice_get-map, slice_get_past}
 use Rattle.ic_laws.proofs.core.Lists.{all_updated, updated_seen}
 use Rattle.ic_laws.specs.CoreStep.{updated_at}
-use Rattle.ic_laws.specs.declared.reference.TheConstants.{LAST_COLUMN, LAST_ROW}
 use Rattle.ic_machine.specs.Book as machine
 use Rattle.ic_machine.specs.Book.{Stepped, found_or, on_sheet, on_tab, put_in, with_sheet}
 use Rattle.ic_machine.proofs.ValidLemmas.{HoldsOf, holds_at, same_styles}
@@ -77,15 +75,6 @@ module _ (index : ℕ) (tab : Tab) (book : Book) (valid : IsValidBook book) (she
         }));
     strings = all_updated (λ (s : Sheet). HasStrings (length book.strings) s.grid) (λ s. record s { tab = tab }) (λ s h. h) index book.sheets valid.strings;
   }
-
--- a tab with other looks stays frozen
-pub same_frozen : (old new : Tab) → new.frozen_rows ≡ old.frozen_rows → new.frozen_columns ≡ old.frozen_columns → StaysFrozen old new
-same_frozen old new rows columns h = record {
-  some_rows = subst (λ (count : ℤ). pos 0 ≤ℤ count) (sym rows) h.some_rows;
-  few_rows = subst (λ (count : ℤ). count <ℤ LAST_ROW) (sym rows) h.few_rows;
-  some_columns = subst (λ (count : ℤ). pos 0 ≤ℤ count) (sym columns) h.some_columns;
-  few_columns = subst (λ (count : ℤ). count <ℤ LAST_COLUMN) (sym columns) h.few_columns;
-}
 
 -- what is done to a part of a sheet is done to the book ----
 

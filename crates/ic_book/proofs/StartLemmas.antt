@@ -1,5 +1,5 @@
 -- The start of a book, and small facts of its calls.
-use Rattle.std.proofs.Common.{◌≡◌, ℕ, ◌+◌, ◌^◌, ◌<◌, ◌≤◌, ◌++◌, ◌∷◌, [], List, true, false, Option, Some, None, SomeIff, IfSome, is_some, is_err, option_map, Result, Ok, Err, MatchResult, All, codes, bytes_eq, refl, sym, ap, subst, arith, if◌then◌else◌}
+use Rattle.std.proofs.Common.{◌≡◌, ℕ, ◌+◌, ◌^◌, ◌<◌, ◌≤◌, ◌++◌, ◌∷◌, [], List, true, false, Option, Some, None, SomeIff, IfSome, is_some, All, codes, bytes_eq, refl, sym, ap, subst, arith, if◌then◌else◌}
 use Rattle.std.proofs.lemmas.List.Elements.{All-weaker}
 use Rattle.ic_laws.specs.Name.{is_sheet_name}
 use Rattle.ic_laws.specs.Greatest.{greatest}
@@ -85,12 +85,3 @@ new_book_valid name locale zone language created tables l g z well = record {
 pub above_all : (r : Option ℕ) (g : ℕ) (ids : List ℕ) → SomeIff r (g + 1 < 2 ^ 32) (g + 1) → g ≡ greatest ids → IfSome r (λ id. All (λ used. used < id) ids)
 above_all None g ids s e = tt
 above_all (Some id) g ids s e = All-weaker (λ n. n ≤ greatest ids) (λ n. n < id) (λ n h. omega (arith, h, s.1, e)) ids (All-greatest ids)
-
--- what an answer that is no error tells
-pub not_err : {T E R : Type 0} (r : Result T E) (P : T → Type 0) (Q : E → Type 0) → MatchResult r P Q → is_err r ≡ false → ((x : T) → P x → R) → R
-not_err (Ok x) P Q h e f = f x h
-not_err (Err x) P Q h e f = cc
-
-pub is_some-mapped : {A B : Type 0} (f : A → B) (o : Option A) (b : B) → option_map f o ≡ Some b → is_some o ≡ true
-is_some-mapped f None b e = cc
-is_some-mapped f (Some a) b e = refl

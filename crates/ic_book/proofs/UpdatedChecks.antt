@@ -32,9 +32,6 @@ module _ (book : Book) (u : Update) (good : is_identifier u.new_name ≡ true) (
   abbrev told : Option Refusal
   told = first_refusal (question_causes (whole_of book) u)
 
-  abbrev typed : Option Body
-  typed = update_body (notations_in book) (core_of book) u.body
-
   from_seen : scope_of (machine.core_of (whole_of book)) u.scope ≡ Some old
   from_seen = ap (λ (c : CoreBook). scope_of c u.scope) (whole_core book) ∙ from
 

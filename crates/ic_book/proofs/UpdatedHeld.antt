@@ -24,7 +24,7 @@ use Rattle.ic_keep.specs.declared.change.KeyChange.{KeyChange}
 use Rattle.ic_machine.proofs.InsertedStays.{all_mapped}
 use Rattle.ic_machine.proofs.UpdatedStays.{passes_at, update_name_stays}
 use Rattle.ic_machine.specs.Book as machine
-use Rattle.ic_machine.specs.Book.{core_of, scene_in, unless}
+use Rattle.ic_machine.specs.Book.{scene_in, unless}
 use Rattle.ic_machine.specs.Capture.{has_sites}
 use Rattle.ic_machine.specs.Changed.{changed_with}
 use Rattle.ic_machine.specs.Kept.{StaysValid}

@@ -32,7 +32,7 @@ use Rattle.ic_machine.specs.Content.{AnchorContent, Content, FormulaContent, con
 use Rattle.ic_machine.specs.InForce.{InForce, all_there, in_force}
 use Rattle.ic_machine.specs.Kept.{StaysValid}
 use Rattle.ic_machine.specs.Placed.{index_in_pool, is_dynamic, pool_with}
-use Rattle.ic_machine.specs.Refusal.{ArrayPart, Causes, InvalidColumn, InvalidRow, InvalidSheet, MergedPart, Refusal, first_refusal}
+use Rattle.ic_machine.specs.Refusal.{ArrayPart, Causes, InvalidColumn, InvalidRow, InvalidSheet, MergedPart, first_refusal}
 use Rattle.ic_machine.specs.Styling.{Numbered, restyled}
 use Rattle.ic_machine.specs.subjects.Writing.{formula_at_place, formula_content, formula_written, place_causes, unquoted, with_content, with_written, write_causes}
 use Rattle.ic_sheets.specs.Sheet.{Sheet, formula_cell, with_cell_in}
@@ -40,7 +40,7 @@ use Rattle.ic_sheets.specs.declared.sheet.FormulaKind.TheVariants as kinds_of
 use Rattle.ic_book.specs.Book.{Book, HasStrings, IsValidBook, ModelState, notations_in, whole_of, whole_sheet, whole_tab}
 use Rattle.ic_book.specs.Does.{DoesStep, IsDone, Refused, WantedIn}
 use Rattle.ic_book.specs.Fields.{no_fields}
-use Rattle.ic_book.specs.Refused.{Tells, refusal_of}
+use Rattle.ic_book.specs.Refused.{Tells}
 use Rattle.ic_book.specs.Written.{WritesFormula, kind_of, put_formula_step, value_causes, value_refusal, value_refusal_in, with_cell, written_formula, written_style}
 use Rattle.ic_book.specs.declared.error.BookError.{BookError}
 use Rattle.ic_book.proofs.GridLemmas.{strings_written}

@@ -1,6 +1,5 @@
 //! Whether an array fits, clearing, values of formulas and spills on the cells of one sheet: the steps of the machine on it.
-ghost use Rattle.std.specs.Prelude.{◌≡◌, false, true};
-ghost use Rattle.ic_grid.specs.Block.{block_at};
+ghost use Rattle.std.specs.Prelude.{false, true};
 ghost use Rattle.ic_grid.specs.Whole.{IsGrid};
 ghost use Rattle.ic_machine.specs.subjects.Arrays.{clear_step, put_spill_step, put_value_step};
 ghost use Rattle.ic_machine.specs.Refusal.{first_refusal};

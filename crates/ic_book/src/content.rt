@@ -1,5 +1,5 @@
 //! What cells show: so that it can be typed again, and by their formats.
-ghost use Rattle.std.specs.Prelude.{◌≡◌, ◌<◌, ℕ, List, IfOk, Some, chars, length, option_and_then, option_map, string_bytes};
+ghost use Rattle.std.specs.Prelude.{◌≡◌, ◌<◌, IfOk, Some, chars, length, option_and_then, option_map, string_bytes};
 ghost use Rattle.std.specs.FinMap as finite;
 ghost use Rattle.std.specs.List.{slice_get};
 ghost use Rattle.ic_cells.specs.Cell.{cell_formula_index, string_at, style_of};

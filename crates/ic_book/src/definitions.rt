@@ -1,5 +1,5 @@
 //! Definitions come and go, and are listed.
-ghost use Rattle.std.specs.Prelude.{◌≡◌, IfOk, IfSome, None, OnErr, OnOk, Some, chars, map};
+ghost use Rattle.std.specs.Prelude.{◌≡◌, IfOk, None, OnErr, OnOk, Some, chars, map};
 ghost use Rattle.ic_laws.specs.CoreStep.{changed_by, delete_definition_refusal, index_of_definition, listed_scope, new_definition, new_definition_refusal, scope_of, scope_or_none, with_new_definition, without_definition};
 ghost use Rattle.ic_laws.specs.FormulaReading.{Body, body_of, shown_body};
 ghost use Rattle.ic_laws.specs.Refusal.{InvalidNameFormula};

@@ -5,7 +5,7 @@ ghost use Rattle.ic_laws.specs.CoreStep.{has_definition, index_of_name};
 ghost use Rattle.ic_laws.specs.Name.{fold};
 ghost use Rattle.ic_machine.specs.Sites.{name_sites_refusal, passing_sites, sheet_sites_refusal, sites_of_name_in, sites_of_sheet_at};
 ghost use Rattle.ic_pool.specs.Mentioning.{AreThosePassing};
-ghost use Rattle.ic_book.specs.Book.{IsValidBook, core_of, whole_of};
+ghost use Rattle.ic_book.specs.Book.{core_of, whole_of};
 ghost use Rattle.ic_book.specs.Mentioning.{cells_passing, definition_passing, mentions, sites_passing};
 ghost use Rattle.ic_book.specs.Refused.{Refuses};
 ghost use Rattle.ic_book.specs.Sites.{site_of};

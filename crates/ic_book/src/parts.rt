@@ -1,7 +1,6 @@
 //! A step on a part of a sheet, as a step of the book.
-ghost use Rattle.std.specs.Prelude.{◌≡◌, Result, option_map};
+ghost use Rattle.std.specs.Prelude.{◌≡◌, Result};
 ghost use Rattle.std.specs.Fn.{FnOnceReturnsAtMut, FnOnceTakesAt, FnOnceTakesAtMut};
-ghost use Rattle.std.specs.List.{slice_get};
 ghost use Rattle.ic_book.specs.Parts.{ChangesGrid, ChangesTab, FindsSheet, ReadsGrid, ReadsTab, StaysFrozen, StaysHeld, StaysLaidOut};
 ghost use Rattle.ic_book.specs.declared.error.BookError.{BookError};
 ghost use Rattle.ic_grid.specs.Whole.{IsGrid};

@@ -1,5 +1,4 @@
-ghost use Rattle.std.specs.Prelude.{◌≡◌, ◌+◌, chars, IfOk, IfSome, OnErr, OnOk, Some};
-ghost use Rattle.std.specs.List.{slice_get};
+ghost use Rattle.std.specs.Prelude.{◌≡◌, chars, OnErr, OnOk, Some};
 ghost use Rattle.ic_laws.specs.BookTrees.{BookKeepsFound, IsMoved};
 ghost use Rattle.ic_laws.specs.CoreStep.{add_sheet_refusal, changed_by, delete_refusal, index_of_id, index_of_name, move_refusal, moved, rename_refusal, with_new_sheet, with_sheet_name, without_sheet};
 ghost use Rattle.ic_machine.specs.subjects.Sheets as sheets;

@@ -1,5 +1,5 @@
 //! Typed texts written in a notation.
-ghost use Rattle.std.specs.Prelude.{◌≡◌, ◌∷◌, IfOk, None, chars, pos, string_bytes, true};
+ghost use Rattle.std.specs.Prelude.{◌≡◌, IfOk, None, chars, pos, string_bytes, true};
 ghost use Rattle.ic_laws.specs.Character.{quote};
 ghost use Rattle.ic_tables.specs.Tables.{IsWellFormed};
 ghost use Rattle.ic_input.specs.declared.input.Typed.TheVariants as kinds;

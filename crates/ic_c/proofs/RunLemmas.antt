@@ -25,10 +25,6 @@ pub record Ran (bytes rest : List ℕ) (old new : Open) : Type 0 where
   pub split : texts_of bytes ≡ done ++ texts_of rest
   pub answered : Answered done old new
 
--- none was
-pub ran_nothing : (bytes : List ℕ) (old new : Open) → book_of new ≡ book_of old → reply_of new ≡ [] → Ran bytes bytes old new
-ran_nothing bytes old new book reply = record { done = []; split = refl; answered = record { book = book; reply = reply } }
-
 -- one more was
 pub ran_on : (bytes rest line behind : List ℕ) (old mid new : Open) → Ran bytes rest old mid → BeginsLine rest line behind → book_of new ≡ (whole_machine (book_of mid) line).0
     → reply_of new ≡ reply_of mid ++ (whole_machine (book_of mid) line).1 → Ran bytes behind old new
@@ -41,11 +37,6 @@ ran_on bytes rest line behind old mid new ran first book reply = record {
         ∙ sym (replies_more whole_machine (book_of old) ran.done line);
   };
 }
-
--- all were
-pub ran_all : (bytes rest : List ℕ) (old new : Open) → Ran bytes rest old new → rest ≡ [] → Answered (texts_of bytes) old new
-ran_all bytes rest old new ran none =
-    subst (λ (lines : List (List ℕ)). Answered lines old new) (sym (ran.split ∙ ap (λ (r : List ℕ). ran.done ++ texts_of r) none ∙ append-nil ran.done)) ran.answered
 
 -- memory ran out behind those that were
 pub ran_first : (bytes rest : List ℕ) (old mid new : Open) → Ran bytes rest old mid → book_of new ≡ book_of mid → reply_of new ≡ reply_of mid → AnsweredFirst (texts_of bytes) old new

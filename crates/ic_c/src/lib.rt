@@ -7,10 +7,9 @@
 
 ghost use Rattle.std.specs.Prelude.{◌≡◌, ◌≢◌, ◌⊎◌, [], ◌∷◌, ◌*ℤ◌, None, Some, IfOk, IsSomeAnd, OnErr, chars, option_map, pos};
 ghost use Rattle.ic_laws.specs.Lines.{line_text, texts_of};
-ghost use Rattle.ic_tables.specs.Sample.{sample};
 ghost use Rattle.ic_c.specs.Answered.{AnswersIn, Copied, NotOpen, OfOpen};
 ghost use Rattle.ic_c.specs.Held.{open_in, reply_of, tables_in};
-ghost use Rattle.ic_c.specs.Opened.{AreUtf8, IsNew, IsOpenStatus, IsRefusal, KeepsTables, NoBook, Wanted};
+ghost use Rattle.ic_c.specs.Opened.{AreUtf8, IsNew, IsOpenStatus, IsRefusal, KeepsTables, NoBook};
 ghost use Rattle.jiff_core.specs.Timestamp.{IsTimestampNanos};
 
 mod lines;

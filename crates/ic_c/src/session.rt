@@ -1,5 +1,5 @@
 //! What stands behind a room: tables, and maybe a book over them with the reply to what it answered last.
-ghost use Rattle.std.specs.Prelude.{◌≡◌, [], ◌∷◌, ◌++◌, length, None, Some, IfErr, IfOk, IsSome, IsSomeAnd, OnErr, OnOk, chars, string_bytes};
+ghost use Rattle.std.specs.Prelude.{◌≡◌, [], ◌∷◌, ◌++◌, length, None, Some, IfErr, IfOk, IsSomeAnd, OnErr, OnOk, chars, string_bytes};
 ghost use Rattle.ic_laws.specs.Lines.{line_text, texts_of};
 ghost use Rattle.ic_tables.specs.Sample.{sample};
 ghost use Rattle.ic_c.specs.Answered.{Answered, AnsweredFirst, Answers, Copied, NotOpen, OfOpen, OfSession, whole_machine};

@@ -1,6 +1,6 @@
 //! How a book is asked for.
 ghost use Rattle.std.specs.Prelude.{◌≡◌, ◌⊎◌, [], ◌∷◌, Err, IfErr, IfOk, chars, pos, ◌*ℤ◌};
-ghost use Rattle.ic_book.specs.Book.{new_book, new_book_refusal};
+ghost use Rattle.ic_book.specs.Book.{new_book};
 ghost use Rattle.ic_book.specs.Refused.{Refuses};
 ghost use Rattle.ic_c.specs.Opened.{AreUtf8, wanted_refusal};
 ghost use Rattle.jiff_core.specs.Timestamp.{IsTimestampNanos};

@@ -1,10 +1,9 @@
 -- The values of cells: which words and texts they are shown by, and of which type they are.
-use Rattle.std.specs.Prelude.{◌≡◌, ◌≢◌, ℕ, ℤ, List, [], ◌∷◌, Bool, true, false, codes}
+use Rattle.std.specs.Prelude.{◌≡◌, ◌≢◌, ℕ, ℤ, List, [], Bool, true, false, codes}
 use Rattle.ic_laws.specs.Amount.{amount_text}
 use Rattle.ic_laws.specs.declared.tree.Error.{Error}
 use Rattle.ic_laws.specs.declared.tree.Error.TheVariants as errors
 use Rattle.ic_tables.specs.declared.language.Language.{Language}
-use Rattle.ic_tables.specs.declared.locale.Locale.{Locale}
 use Rattle.ic_cells.specs.declared.value.CellType.{CellType}
 use Rattle.ic_cells.specs.declared.value.CellType.TheVariants as types
 use Rattle.ic_cells.specs.declared.value.CellValue.{CellValue}

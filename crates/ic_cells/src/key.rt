@@ -1,5 +1,5 @@
 //! The keys by which styles are found.
-ghost use Rattle.std.specs.Prelude.{◌≡◌, [], ◌∷◌, ◌++◌, IfOk, OnOk, chars};
+ghost use Rattle.std.specs.Prelude.{◌≡◌, ◌++◌, IfOk, OnOk, chars};
 ghost use Rattle.ic_cells.specs.Key.{code, fill_code, flag, text_code};
 
 use crate::{Color, Style};

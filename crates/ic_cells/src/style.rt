@@ -1,4 +1,4 @@
-ghost use Rattle.std.specs.Prelude.{◌≡◌, Bool, IfOk, chars};
+ghost use Rattle.std.specs.Prelude.{◌≡◌, IfOk, chars};
 ghost use Rattle.ic_cells.specs.Style.{default_style, with_format, with_quote_prefix};
 
 use ic_laws::{OutOfMemory, Text};

@@ -1,7 +1,7 @@
 -- Definitions get the bodies that a change makes of theirs, one after another.
-use Rattle.std.proofs.Common.{◌≡◌, ◌<◌, ◌≤◌, ◌+◌, ◌⊎◌, ℕ, zero, suc, List, [], ◌∷◌, ◌++◌, Bool, true, false, cond, map, length, take, drop, get_or, slice_set, append_assoc, append-nil, refl, sym, ap, ap₂, subst, ◌∙◌, arith, inl, inr, take_at}
+use Rattle.std.proofs.Common.{◌≡◌, ◌<◌, ◌+◌, ◌⊎◌, ℕ, zero, suc, List, [], ◌∷◌, ◌++◌, Bool, true, false, cond, map, length, take, drop, get_or, slice_set, append_assoc, append-nil, refl, sym, ap, ap₂, subst, ◌∙◌, arith, inl, inr, take_at}
 use Rattle.std.proofs.lemmas.Bool.{or_parts}
-use Rattle.std.proofs.lemmas.List.{drop_all, drop_more, length-map, length-take, map_more, take_all, take_more}
+use Rattle.std.proofs.lemmas.List.{drop_more, length-map, length-take, map_more, take_more}
 use Rattle.std.specs.List.{AllByRecursion}
 use Rattle.ic_laws.proofs.core.Lists.{all_pushed, all_updated, length_updated, updated_unseen}
 use Rattle.ic_laws.specs.BookTrees.{with_body_tree}
@@ -114,28 +114,6 @@ module _ (rule : Remade) (ds : List Definition) where
     pub made : with_bodies w.bodies.items ds ≡ map becomes ds
     pub listed : w.bodies.items ≡ touched_bodies rule 0 ds
     pub fits : FitsBodies w ds
-
-  pub noted_start : (w : BodyRewrites) → w.bodies.items ≡ [] → NotedTo 0 w
-  noted_start w none = record {
-    made = ap (λ news. with_bodies news ds) none;
-    listed = none;
-    within = subst (AllByRecursion Within) (sym none) tt;
-    dangles = λ e. tt;
-  }
-
-  pub noted_end : (i : ℕ) (w : BodyRewrites) → NotedTo i w → length ds ≤ i → Noted w
-  noted_end i w done end =
-      let all : take i ds ≡ ds = take_all i ds end in
-      let put : with_bodies w.bodies.items ds ≡ map becomes ds =
-      done.made ∙ ap₂ (λ a b. map becomes a ++ b) all (drop_all i ds end) ∙ append-nil (map becomes ds) in
-      record {
-        made = put;
-        listed = done.listed ∙ ap (touched_bodies rule 0) all;
-        fits = record {
-          within = done.within;
-          dangles = λ e. subst (AllByRecursion HasFoundAll) (ap (map becomes) all ∙ sym put) (done.dangles e);
-        };
-      }
 
   module _ (i next : ℕ) (x : Definition) (v w : BodyRewrites) (is_next : i + 1 ≡ next) (below : i < length ds) (item : x ≡ get_or ds i x) where
     front : List Definition

@@ -1,17 +1,10 @@
 -- What is found among definitions, for those who use them.
-use Rattle.std.proofs.Common.{◌≡◌, ℕ, zero, suc, List, [], ◌∷◌, map, Bool, true, false, cond, ◌||◌, Option, Some, None, option_map, is_some, position, slice_get, refl, sym, ap, subst, ◌∙◌}
+use Rattle.std.proofs.Common.{◌≡◌, ℕ, zero, suc, List, [], ◌∷◌, map, Bool, true, false, cond, ◌||◌, Option, Some, None, option_map, is_some, position, slice_get, refl, sym, ap, ◌∙◌}
 use Rattle.std.specs.List.{list_any}
-use Rattle.ic_laws.proofs.keeping.NameChanges.{key_at}
 use Rattle.ic_laws.specs.CoreBook.{Definition, spelling_of}
-use Rattle.ic_laws.specs.CoreStep.{is_named}
-use Rattle.ic_laws.specs.Name.{fold}
-use Rattle.ic_laws.specs.Scene.{definition_at, found_name, name_of_key}
 use Rattle.ic_laws.specs.declared.scene.Scene.{Scene}
 use Rattle.ic_laws.specs.declared.scene.SheetName.{SheetName}
-use Rattle.ic_laws.specs.declared.tree.NameKey.{NameKey}
-use Rattle.ic_definitions.specs.Named.{definitions_scene, index_with_key}
 use Rattle.ic_definitions.proofs.FindingLemmas.{position_step}
-use Rattle.ic_definitions.proofs.NamedLemmas.{free_has_no_place}
 
 -- ---- the scene of definitions finds what any scene of these definitions finds
 
@@ -19,20 +12,7 @@ module _ (sheets : List SheetName) (ds : List Definition) where
   abbrev pub scene_with : Scene
   scene_with = record { sheets = sheets; names = map spelling_of ds }
 
-  pub same_found_name : (scope : Option ℕ) (word : List ℕ) → found_name scene_with scope word ≡ found_name (definitions_scene ds) scope word
-  same_found_name scope word = refl
-
-  pub same_definition_at : (folded : List ℕ) (scope : Option ℕ) → definition_at scene_with folded scope ≡ definition_at (definitions_scene ds) folded scope
-  same_definition_at folded scope = refl
-
-  pub same_name_of_key : (key : NameKey) → name_of_key scene_with key ≡ name_of_key (definitions_scene ds) key
-  same_name_of_key key = refl
-
 -- ---- names that are free, and places
-
--- a key that no definition has finds none
-pub free_key : (name : List ℕ) (scope : Option ℕ) (ds : List Definition) → list_any (is_named name scope) ds ≡ false → index_with_key (key_at (fold name) scope) ds ≡ None
-free_key name scope ds free = free_has_no_place (key_at (fold name) scope) ds free
 
 module _ {X : Type 0} (p : X → Bool) where
   -- there is an index exactly where some item passes
@@ -47,13 +27,6 @@ module _ {X : Type 0} (p : X → Bool) where
 
   pub position_none : (xs : List X) → position p xs ≡ None → list_any p xs ≡ false
   position_none xs e = sym (position_any xs) ∙ ap is_some e
-
-  pub none_position : (xs : List X) → list_any p xs ≡ false → position p xs ≡ None
-  none_position xs e = is_none (position p xs) (position_any xs ∙ e)
-    where
-      is_none : (index : Option ℕ) → is_some index ≡ false → index ≡ None
-      is_none None e = refl
-      is_none (Some n) e = cc
 
   pub some_position : (xs : List X) (index : ℕ) → position p xs ≡ Some index → list_any p xs ≡ true
   some_position xs index e = sym (position_any xs) ∙ ap is_some e
@@ -70,13 +43,3 @@ module _ {X : Type 0} (p : X → Bool) where
           let later : suc n ≡ index = cc in
           let found = rest n refl in
           (found.0, ap (slice_get (x ∷ xs)) (sym later) ∙ found.1, found.2)
-
-  -- which is the one that stands there
-  pub passes_at_position : (xs : List X) (index : ℕ) (x : X) → position p xs ≡ Some index → slice_get xs index ≡ Some x → p x ≡ true
-  passes_at_position xs index x e at =
-      let found = item_at_position xs index e in
-      let same : found.0 ≡ x = same_item (sym found.1 ∙ at) in
-      subst (λ y. p y ≡ true) same found.2
-    where
-      same_item : {a b : X} → Some a ≡ Some b → a ≡ b
-      same_item e = cc

@@ -2,7 +2,7 @@
 use Rattle.std.proofs.Common.{◌≡◌, ℕ, List, [], ◌∷◌, map, false, Option, None, Ok, refl, ap, ap₂, ◌∙◌}
 use Rattle.std.specs.List.{AllByRecursion}
 use Rattle.ic_laws.specs.CoreBook as core_book
-use Rattle.ic_laws.specs.CoreBook.{CoreBook, Definition, ids_of, last_id, names_of, spelling_of}
+use Rattle.ic_laws.specs.CoreBook.{CoreBook, Definition, ids_of, names_of, spelling_of}
 use Rattle.ic_laws.specs.Keeping.{KeyChange, kept_in_body}
 use Rattle.ic_laws.specs.Notations.{Notations}
 use Rattle.ic_laws.specs.declared.scene.Scene.{Scene}

@@ -21,7 +21,7 @@ use Rattle.ic_laws.specs.Character.{equals}
 use Rattle.ic_laws.specs.Command as core_commands
 use Rattle.ic_laws.specs.Command.{position_said}
 use Rattle.ic_laws.specs.CoreBook as core_book
-use Rattle.ic_laws.specs.CoreBook.{CellPlace, Cells, CoreBook, Definition, last_id, place_cmp, scene_of, spelling_of, with_formula_at}
+use Rattle.ic_laws.specs.CoreBook.{CellPlace, Cells, CoreBook, place_cmp, scene_of, spelling_of, with_formula_at}
 use Rattle.ic_laws.specs.CoreStep as core
 use Rattle.ic_laws.specs.CoreStep.{core_step, updated_at}
 use Rattle.ic_laws.specs.Dialect.{DialectMeaning}

@@ -1,5 +1,5 @@
 -- The cause that a book has no lines, and the parts of its lines.
-use Rattle.std.proofs.Common.{◌≡◌, ◌++◌, ◌∷◌, [], ◌∙◌, ℕ, ◌+◌, ◌-◌, pos, Bool, true, false, cond, List, Option, Some, None, ap, ap₂, append_assoc, find, length, length-append, map, min, option_map, refl, reverse, sym, zip, arith}
+use Rattle.std.proofs.Common.{◌≡◌, ◌++◌, ◌∷◌, [], ◌∙◌, ℕ, ◌+◌, ◌-◌, Bool, true, false, cond, List, Option, Some, None, ap, ap₂, append_assoc, find, length, length-append, map, min, option_map, refl, reverse, sym, zip, arith}
 use Rattle.std.proofs.lemmas.List.{length-map}
 use Rattle.std.proofs.lemmas.Slice.Zip.{length-zip}
 use Rattle.std.specs.List.{range_with_len}

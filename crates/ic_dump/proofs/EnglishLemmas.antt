@@ -1,6 +1,6 @@
 -- English is there, and what is written in it.
-use Rattle.std.proofs.Common.{◌≡◌, ◌∷◌, ◌∙◌, ap, ℤ, List, None, codes, false, refl}
-use Rattle.std.specs.Prelude.{is_none, is_some, Bool, Option, Some, true}
+use Rattle.std.proofs.Common.{◌≡◌, ◌∷◌, ◌∙◌, ap, ℤ, None, codes, false, refl}
+use Rattle.std.specs.Prelude.{is_none, is_some, Option, Some, true}
 use Rattle.ic_tables.specs.Tables.{IsWellFormed, TableSet, language_of, locale_of}
 use Rattle.ic_laws.specs.Refusal.{Refusal}
 use Rattle.ic_laws.specs.Character.{equals}

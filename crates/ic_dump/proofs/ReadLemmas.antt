@@ -1,5 +1,5 @@
 -- Whether a text, written after `=` in English, isn't kept as it is.
-use Rattle.std.proofs.Common.{◌≡◌, ◌++◌, ◌∙◌, ℕ, List, None, Some, ap, codes, false, length, nat_eq, refl, subst, sym, true}
+use Rattle.std.proofs.Common.{◌≡◌, ◌++◌, ◌∙◌, ℕ, List, None, Some, ap, codes, false, length, nat_eq, refl, sym, true}
 use Rattle.std.specs.Prelude.{Option, is_some}
 use Rattle.std.specs.Option.{option_or}
 use Rattle.ic_laws.specs.CoreBook.{CellPlace}

@@ -1,5 +1,5 @@
 -- The first of what stands in a list, by what is left of it.
-use Rattle.std.proofs.Common.{◌≡◌, ◌++◌, ◌∷◌, [], ◌∙◌, ℕ, ◌+◌, Bool, true, false, cond, List, Option, Some, None, ap, drop, find, map, option_map, refl, slice_get, sym}
+use Rattle.std.proofs.Common.{◌≡◌, ◌++◌, ◌∷◌, [], ◌∙◌, ℕ, ◌+◌, Bool, true, false, cond, List, Option, Some, None, ap, drop, find, refl, slice_get, sym}
 use Rattle.std.specs.Prelude.{flat_map}
 use Rattle.ic_laws.specs.CoreBook.{Sheet}
 use Rattle.ic_laws.specs.Notations.{Notations}

@@ -1,5 +1,5 @@
 -- What stands at an index, and the lines of what is left.
-use Rattle.std.proofs.Common.{◌≡◌, ◌++◌, ◌∷◌, [], ◌∙◌, ℕ, ◌+◌, ◌-◌, ◌<◌, ◌≤◌, zero, suc, List, Bool, true, false, cond, ap, append_assoc, append-nil, drop, filter, get_or, length, map, refl, reverse, subst, sym, arith}
+use Rattle.std.proofs.Common.{◌≡◌, ◌++◌, ◌∷◌, [], ◌∙◌, ℕ, ◌+◌, ◌-◌, ◌<◌, ◌≤◌, zero, suc, List, Bool, true, false, cond, ap, append_assoc, append-nil, drop, filter, get_or, length, map, refl, reverse, sym, arith}
 use Rattle.std.proofs.lemmas.List.{drop_all, drop_more, reverse-append}
 use Rattle.std.proofs.Math.Numerals.{add-one}
 use Rattle.std.specs.List.{range_with_len}

@@ -172,10 +172,6 @@ hold_scopes P (d ∷ ds) h =
     let rest : List ℕ = flat_map (λ (x : Definition). option_to_list x.scope) ds in
     (front_holds P (option_to_list d.scope) rest h, hold_scopes P ds (back_holds P (option_to_list d.scope) rest h))
 
-any_mapped : {A B : Type 0} (p : B → Bool) (f : A → B) (xs : List A) → list_any p (map f xs) ≡ list_any (λ x. p (f x)) xs
-any_mapped p f [] = refl
-any_mapped p f (x ∷ xs) = ap (λ b. p (f x) || b) (any_mapped p f xs)
-
 any_flipped : (id : ℕ) (sheets : List SheetName) → list_any (nat_eq id) (map id_of sheets) ≡ list_any (λ (s : SheetName). nat_eq s.id id) sheets
 any_flipped id [] = refl
 any_flipped id (s ∷ sheets) = rw (nat_eq_equiv.symm id s.id, any_flipped id sheets) refl

@@ -1,6 +1,6 @@
 -- Sheets that are found by their ids as they are put at the end, and the ids that are listed once.
 use Rattle.std.proofs.Common.{zero, not, Result, Ok, Err, OnOk, ◌≡◌, ℕ, suc, ◌+◌, ◌≤◌, ◌<◌, ◌||◌, List, [], ◌∷◌, ◌++◌, Bool, true, false, cond, eqb, nat_lt, Option, Some, None, drop, get_or, length, map, refl, sym, ap, ap₂, ◌∙◌, append_assoc, append-nil, length-append, inl, inr, arith}
-use Rattle.std.proofs.lemmas.Bool.{cases_Bool, cases_lt}
+use Rattle.std.proofs.lemmas.Bool.{cases_Bool}
 use Rattle.std.proofs.lemmas.Bool.Decides.{nat_tests}
 use Rattle.std.proofs.Math.Numerals.{add-one}
 use Rattle.std.proofs.lemmas.List.Folds.{list_any-append, position_or_len_push}

@@ -7,7 +7,7 @@ use Rattle.std.specs.Prelude.{flat_map}
 use Rattle.ic_laws.specs.CoreBook.{CellPlace, CoreBook, Definition, Sheet, names_of}
 use Rattle.ic_laws.specs.declared.tree.Formula.{Formula}
 use Rattle.ic_dump.proofs.CellLemmas.{one_taken}
-use Rattle.ic_dump.specs.Passing.{formulas_in, taken_names, unfound_of}
+use Rattle.ic_dump.specs.Passing.{taken_names, unfound_of}
 
 -- those that the formulas of a sheet's cells name
 abbrev pub unfound_at : Sheet → List (List ℕ)

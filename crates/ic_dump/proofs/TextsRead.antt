@@ -7,7 +7,7 @@ use Rattle.ic_laws.specs.declared.scene.NameSpelling.{NameSpelling}
 use Rattle.ic_laws.specs.declared.scene.SheetName.{SheetName}
 use Rattle.ic_machine.specs.Command.{OnDefinitions, OnSheets, OnWriting, command_in, commands}
 use Rattle.ic_machine.specs.Row.{spelled}
-use Rattle.ic_machine.specs.Word.{AllSaid, OfIndex, OfPosition, OfScope, OfText, WordForm, all_said}
+use Rattle.ic_machine.specs.Word.{AllSaid, OfIndex, OfPosition, OfScope, OfText, all_said}
 use Rattle.ic_machine.specs.Word as forms
 use Rattle.ic_machine.specs.subjects.Definitions as definitions
 use Rattle.ic_machine.specs.subjects.Sheets as sheets

@@ -4,15 +4,14 @@ use Rattle.std.proofs.lemmas.List.Folds.{list_any-append}
 use Rattle.std.specs.List.{list_any, slice_get}
 use Rattle.std.specs.Option.{option_or}
 use Rattle.std.specs.Prelude.{flat_map}
-use Rattle.ic_laws.specs.CoreBook.{CellPlace, Cells, CoreBook, Definition, Sheet, spelling_of}
+use Rattle.ic_laws.specs.CoreBook.{CellPlace, Cells, Definition, Sheet, spelling_of}
 use Rattle.ic_laws.specs.Notations.{Notations}
 use Rattle.ic_laws.specs.Scene.{key_of}
 use Rattle.ic_laws.specs.declared.tree.Formula.{Formula}
 use Rattle.ic_laws.specs.declared.tree.Formula.TheVariants as formulas
 use Rattle.ic_laws.specs.declared.tree.NameKey.{NameKey}
 use Rattle.ic_machine.specs.Refusal.{Site}
-use Rattle.ic_dump.specs.Passing.{formulas_in}
-use Rattle.ic_dump.specs.Refused.{Cause, RawBody, Rereads, TreesHaveLines, cause_of, is_raw, raw_body, rereading, rereading_cell, rereading_cells, rereads}
+use Rattle.ic_dump.specs.Refused.{RawBody, Rereads, TreesHaveLines, is_raw, raw_body, rereading, rereading_cell, rereads}
 
 either_not : (a b : Bool) → (a || b) ≡ false → (a ≡ false) × (b ≡ false)
 either_not true b e = cc

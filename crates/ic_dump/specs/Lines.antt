@@ -1,5 +1,5 @@
 -- The lines that rebuild the sheets, the definitions and the formulas of a book from a new one, stage by stage.
-use Rattle.std.specs.Prelude.{ℕ, ◌+◌, suc, List, [], ◌∷◌, ◌++◌, codes, filter, flat_map, length, map, position, reverse, Bool, Option, Some, None, nat_eq, unwrap_or, if◌then◌else◌}
+use Rattle.std.specs.Prelude.{ℕ, ◌+◌, suc, List, [], ◌∷◌, ◌++◌, codes, filter, length, map, position, reverse, Bool, Option, Some, None, nat_eq, unwrap_or, if◌then◌else◌}
 use Rattle.std.specs.Fmt.{decimal, signed_decimal}
 use Rattle.std.specs.List.{range_with_len}
 use Rattle.ic_laws.specs.Character.{equals}

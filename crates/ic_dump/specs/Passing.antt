@@ -1,6 +1,6 @@
 -- The sheets that stand while a book is rebuilt: its own, and passing ones, for definitions that are local to a sheet which is
 -- gone. A passing sheet has a name that nothing in the book means.
-use Rattle.std.specs.Prelude.{ℕ, ◌+◌, List, [], ◌∷◌, ◌++◌, filter, flat_map, length, map, take, zip, Bool, not, Option, nat_eq, if◌then◌else◌}
+use Rattle.std.specs.Prelude.{ℕ, ◌+◌, List, [], ◌∷◌, ◌++◌, filter, flat_map, length, map, take, zip, Bool, not, nat_eq, if◌then◌else◌}
 use Rattle.std.specs.Fmt.{decimal}
 use Rattle.std.specs.List.{list_any, range_with_len}
 use Rattle.std.specs.Option.{option_to_list}

@@ -1,6 +1,5 @@
 -- What the program writes.
 use Rattle.std.specs.Prelude.{◌≡◌, ℕ, List, ◌++◌, codes, flat_map, encode_utf8_all, Option, Some, None}
-use Rattle.ic_laws.specs.CoreBook.{CoreBook}
 use Rattle.ic_tables.specs.Tables.{TableSet}
 use Rattle.ic_lines.specs.Bytes.{AppendsFront}
 use Rattle.ic_machine.specs.Book.{Book, core_of, notations_in}

@@ -6,7 +6,7 @@ ghost use Rattle.ic_book.specs.Whole.{whole_of};
 ghost use Rattle.ic_run.specs.Desk.{start_refusal};
 ghost use Rattle.ic_run.specs.Make.{made_setting};
 ghost use Rattle.ic_dump.specs.Refused.{raw_body};
-ghost use Rattle.ic_dump.specs.Told.{AppendsCannot, AppendsDump, AppendsToldFront, TellsCannot, TellsDump, told_cannot, told_lines, told_of};
+ghost use Rattle.ic_dump.specs.Told.{AppendsCannot, AppendsDump, AppendsToldFront, TellsCannot, TellsDump, told_lines, told_of};
 
 use crate::DumpError;
 use crate::dumping::dump;

@@ -1,6 +1,6 @@
 //! A book as command lines.
 ghost use Rattle.std.specs.Prelude.{◌≡◌, IfOk, None, OnOk, map};
-ghost use Rattle.ic_book.specs.Book.{IsValidBook, core_of, notations_in};
+ghost use Rattle.ic_book.specs.Book.{core_of, notations_in};
 ghost use Rattle.ic_book.specs.Workbook.{defined_name_of};
 ghost use Rattle.ic_dump.specs.English.{IsEnglish};
 ghost use Rattle.ic_dump.specs.Lines.{dump_lines};

@@ -1,5 +1,5 @@
 //! The sheets of a book with the formulas of their cells.
-ghost use Rattle.std.specs.Prelude.{◌≡◌, IfOk, Some, map, option_map};
+ghost use Rattle.std.specs.Prelude.{◌≡◌, IfOk, Some, map};
 ghost use Rattle.std.specs.List.{slice_get};
 ghost use Rattle.ic_laws.specs.CoreBook.{Sheet};
 ghost use Rattle.ic_book.specs.Book.{IsValidBook, core_of, scene_in};

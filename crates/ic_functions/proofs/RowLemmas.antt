@@ -1,5 +1,5 @@
 -- Rows of a text, and words of rows.
-use Rattle.std.proofs.Common.{◌≡◌, ℕ, zero, suc, ◌+◌, ◌-◌, ◌<◌, ◌≤◌, List, [], ◌∷◌, ◌++◌, true, false, ◌==◌, nat_eq, length, length-append, drop, map, ap, ap₂, sym, ◌∙◌, refl, arith, inl, inr}
+use Rattle.std.proofs.Common.{◌≡◌, ℕ, zero, suc, ◌+◌, ◌-◌, ◌<◌, ◌≤◌, List, [], ◌∷◌, ◌++◌, true, false, ◌==◌, nat_eq, length, drop, map, ap, ap₂, sym, ◌∙◌, refl, arith, inl, inr}
 use Rattle.std.proofs.lemmas.Bool.{cases_Bool, eqb-true}
 use Rattle.std.proofs.lemmas.Bool.Decides.{nat_tests}
 use Rattle.std.proofs.lemmas.List.{map-append}
@@ -35,17 +35,6 @@ row_of_text [] front rest after some r e a = cc
 row_of_text (c ∷ cs) front rest after some r e a =
     first_and_more c cs
     ∙ ap₂ ◌∷◌ (sym (run_before_rest is_in_row (c ∷ cs) front rest r e)) (ap rows_in (ap (drop 1) (sym r) ∙ sym a))
-
-pub shorter_after : (text front rest after : List ℕ) → nat_eq (length text) 0 ≡ false → text ≡ front ++ rest → after ≡ drop 1 rest
-    → length after < length text
-shorter_after [] front rest after some e a = cc
-shorter_after (c ∷ cs) front [] after some e a =
-    let none : length after ≡ 0 = ap length a in
-    omega (arith, none)
-shorter_after (c ∷ cs) front (d ∷ ds) after some e a =
-    let whole : length (c ∷ cs) ≡ length front + suc (length ds) = ap length e ∙ length-append front (d ∷ ds) in
-    let left : length after ≡ length ds = ap length a in
-    omega (arith, whole, left)
 
 pub no_row : (text : List ℕ) → nat_eq (length text) 0 ≡ true → rows_in text ≡ []
 no_row [] h = refl

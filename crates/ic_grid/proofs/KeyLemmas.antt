@@ -1,18 +1,15 @@
 -- The places of an ordered map are those of the finite map, in the same order.
 use Rattle.std.proofs.Common.{◌≡◌, ◌∙◌, sym, ap, subst, Bool, true, false, T, ◌&&◌, List, [], ◌∷◌, map}
-use Rattle.std.specs.BTreeMap as tree
-use Rattle.std.specs.BTreeMap.{BTreeMap}
 use Rattle.std.specs.FinMap as finite
 use Rattle.std.specs.FinMap.{is_sorted}
 use Rattle.std.specs.FinMap.Entries.{below_all}
-use Rattle.std.specs.List.{AllByRecursion, list_any}
+use Rattle.std.specs.List.{AllByRecursion}
 use Rattle.std.specs.List.Sorted.{IsStrictlySortedBy}
 use Rattle.std.specs.Ordering.{is_lt}
 use Rattle.std.specs.declared.cmp.Ordering.TheVariants.{Less}
 use Rattle.ic_cells.specs.Maps.{place_cmp}
 use Rattle.ic_laws.proofs.core.CellWritten.{place_cmp_total, place_tied}
 use Rattle.ic_grid.specs.Block.{Place}
-use Rattle.ic_grid.specs.Contents.{Contents}
 
 two : (a b : Bool) → T a → T b → T (a && b)
 two true b p q = q
@@ -33,8 +30,3 @@ module _ {X : Type 0} where
       ap finite.entries (finite.same_map place_cmp_total place_tied (finite.from_entries {R = place_cmp} es) (finite.from_sorted {R = place_cmp} es)
       (λ q. finite.get-from_entries place_cmp_total es q ∙ sym (finite.get-from_sorted place_cmp es q (sorted_entries es h))))
       ∙ finite.entries-from_sorted place_cmp es (sorted_entries es h)
-
-  -- so some place passes a test in both or in none
-  pub any_place : (m : BTreeMap Place X) (v : Contents X) (test : Place → Bool) → tree.IsOrdered place_cmp m → finite.from_entries m.entries ≡ v → list_any test (tree.keys m) ≡ list_any test (finite.keys v)
-  any_place m v test ordered e =
-      ap (λ es. list_any test (map (λ (e : Place × X). e.0) es)) (sym (entries_back m.entries ordered) ∙ ap finite.entries e)

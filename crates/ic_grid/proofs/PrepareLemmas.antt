@@ -38,10 +38,6 @@ released_where test m = remade (λ q x. Some (released_cell test q x)) m
 abbrev pub and_at : (Place → Bool) → Place → Place → Bool
 and_at test a b = test b || same_place b a
 
-one_more : (t s : Bool) (x y z : Cell) → cond s z x ≡ y → cond t z y ≡ cond (t || s) z x
-one_more true s x y z e = refl
-one_more false s x y z e = sym e
-
 released_again : (test : Place → Bool) (a q : Place) (x : Cell) → after_release a q (released_cell test q x) ≡ released_cell (and_at test a) q x
 released_again test a q (cells.EmptyCell s) = either (same_place q a) (cells.EmptyCell s)
 released_again test a q (cells.BooleanCell v s) = either (same_place q a) (cells.BooleanCell v s)

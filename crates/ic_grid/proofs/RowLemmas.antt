@@ -222,10 +222,6 @@ placed_more b q rest more x m after whole h e is next n =
 pub placed_begun : {X : Type 0} (b : Block) (at : Place) (items xs : List X) (m : Contents X) → at ≡ first_place b → items ≡ xs → placed b at items m ≡ placed b (first_place b) xs m
 placed_begun b at items xs m e f = ap (λ (p : Place). placed b p items m) e ∙ ap (λ ys. placed b (first_place b) ys m) f
 
-pub placed_done : {X : Type 0} (b : Block) (q : Place) (rest : List X) (m whole : Contents X) → placed b q rest m ≡ whole → length rest ≡ 0 → m ≡ whole
-placed_done b q [] m whole h e = h
-placed_done b q (x ∷ xs) m whole h e = absurd (omega arith)
-
 pub at_bounds : (b : Block) (q : Place) (n : ℕ) → is_area b ≡ true → IsAt b q (suc n) → (q.0 <ℤ pos 1048577) × (q.1 <ℤ pos 16385)
 at_bounds b q n area at =
     let s = area_bounds b area in

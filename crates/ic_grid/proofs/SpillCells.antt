@@ -1,5 +1,5 @@
 -- The cells of an array, one for each of its values.
-use Rattle.std.proofs.Common.{◌≡◌, ◌∙◌, refl, sym, ap, subst, ℕ, pos, suc, true, List, [], ◌∷◌, ◌++◌, length, append_assoc, append-nil, arith}
+use Rattle.std.proofs.Common.{◌≡◌, ◌∙◌, sym, ap, subst, ℕ, pos, suc, true, List, [], ◌∷◌, ◌++◌, length, append_assoc, arith}
 use Rattle.ic_cells.specs.declared.cell.ArrayKind.{ArrayKind}
 use Rattle.ic_cells.specs.declared.cell.Cell.{Cell}
 use Rattle.ic_cells.specs.declared.cell.Cell.TheVariants as cells
@@ -51,21 +51,6 @@ module _ (rows : Rows) (columns : Columns) (m : Contents Cell) (b : Block) where
           ∙ ap (λ (p : Place). items ++ celled.spill (style_at celled m rows columns at) (first_place b) v ∷ rest_cells rows columns m b p more) is
           ∙ ap (λ zs. items ++ rest_cells rows columns m b at zs) (sym e) ∙ so.same;
     }
-
-    pub filling_done : length rest ≡ 0 → items ≡ all
-    filling_done none = by_rest rest none so.same
-      where
-        by_rest : (r : List SpillValue) → length r ≡ 0 → items ++ rest_cells rows columns m b at r ≡ all → items ≡ all
-        by_rest [] n e = sym (append-nil items) ∙ e
-        by_rest (v ∷ r) n e = absurd (omega (arith, n))
-
--- no values, no cells
-pub none_filled : (rows : Rows) (columns : Columns) (m : Contents Cell) (b : Block) (f s : ℕ) (kind : ArrayKind) (values rest : List SpillValue) → rest ≡ values → length rest ≡ 0 → (items : List Cell) → items ≡ [] → items ≡ array_cells rows columns m b f s kind values
-none_filled rows columns m b f s kind values rest e n items is = is ∙ by_rest rest n ∙ ap (array_cells rows columns m b f s kind) e
-  where
-    by_rest : (r : List SpillValue) → length r ≡ 0 → [] ≡ array_cells rows columns m b f s kind r
-    by_rest [] n = refl
-    by_rest (v ∷ r) n = absurd (omega (arith, n))
 
 pub first_row : (b : Block) → is_area b ≡ true → (a : Place) → a ≡ first_place b → a.0 <ℤ pos 2147483647
 first_row b area a e = let s = area_bounds b area in subst (λ (p : Place). p.0 <ℤ pos 2147483647) (sym e) (omega (arith, ints, s.last_row, s.high))

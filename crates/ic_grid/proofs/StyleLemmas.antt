@@ -1,7 +1,6 @@
 -- The numbers of the styles of places, and the styles that join others.
-use Rattle.std.proofs.Common.{◌≡◌, ◌∙◌, refl, sym, ap, subst, ℕ, suc, ◌+◌, ◌<◌, ◌≤◌, Bool, true, false, cond, List, [], ◌∷◌, ◌++◌, length, take, Option, Some, None, is_some, append_assoc, append-nil, arith}
+use Rattle.std.proofs.Common.{◌≡◌, ◌∙◌, refl, sym, ap, subst, ℕ, suc, ◌+◌, ◌<◌, ◌≤◌, Bool, true, false, cond, List, [], ◌∷◌, ◌++◌, length, Option, Some, None, is_some, append_assoc, append-nil, arith}
 use Rattle.std.proofs.lemmas.List.{length-append}
-use Rattle.std.proofs.Math.Seq.{take-append_seam}
 use Rattle.std.specs.FinMap as finite
 use Rattle.std.specs.Option.{option_and_then, option_map, unwrap_or}
 use Rattle.ic_cells.specs.Cell.{style_of}
@@ -36,9 +35,6 @@ pub start_longer : (a b : List Style) → StartWith b a → length a ≤ length 
 start_longer a b s =
     let count : length b ≡ length a + length s.0 = ap length s.1 ∙ length-append a s.0 in
     omega (arith, count)
-
-pub start_taken : (a b : List Style) → StartWith b a → take (length a) b ≡ a
-start_taken a b s = ap (take (length a)) s.1 ∙ take-append_seam a s.0
 
 module _ (s : Style) where
   found_below : (ts : List Style) (at : ℕ) → styling.first_place s ts ≡ Some at → at < length ts

@@ -100,10 +100,6 @@ between_is first last n e =
     let both = and_parts (int_le first n) (int_lt n last) e in
     (grind (arith, ints, both.0), grind (arith, ints, both.1))
 
-between_not : (first last n : ℤ) → is_between first last n ≡ false → first ≤ℤ n → last ≤ℤ n
-unfolding is_between
-between_not first last n e h = grind (arith, ints)
-
 pub record InBlock (b : Block) (q : Place) : Type 0 where
   pub top : b.row ≤ℤ q.0
   pub bottom : q.0 <ℤ (b.row +ℤ b.height)
@@ -121,10 +117,6 @@ in_block b q e =
 pub from_row : (p q : Place) → is_from p q ≡ true → p.0 ≤ℤ q.0
 unfolding is_from
 from_row p q e = grind (arith, ints)
-
-pub not_from : (p q : Place) → is_from p q ≡ false → (q.0 ≤ℤ p.0)
-unfolding is_from
-not_from p q e = grind (arith, ints)
 
 find_is : {K X : Type 0} (R : K → K → Ordering) (es : List (K × X)) (q : K) → finite.find R q es ≡ lookup (is_at (R q)) es
 find_is R [] q = refl

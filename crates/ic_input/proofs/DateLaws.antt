@@ -158,9 +158,6 @@ day_complete y m d n h = rw (h.there, h.number, le-leb _ _ h.first, le-leb _ _ h
 digits_all : (a b c : List ℕ) → all_ascii_digits a ≡ true → all_ascii_digits b ≡ true → all_ascii_digits c ≡ true → all_ascii_digits (a ++ (b ++ c)) ≡ true
 digits_all a b c ha hb hc = digits-append a (b ++ c) ha (digits-append b c hb hc)
 
-same_number : (a b : ℕ) → (a == b) ≡ true → a ≡ b
-same_number a b h = eqb-true a b h
-
 -- dates as `2026-01-15`
 iso_from : (l : Locale) (text : List ℕ) (n : ℕ) (o : Option Fields) → three_fields minus 4 2 text ≡ o → iso_day o ≡ Some n → IsTypedDate l text n iso_date
 iso_from l text n None e h = absurd (cc)

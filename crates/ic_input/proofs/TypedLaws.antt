@@ -43,9 +43,6 @@ sign_cases c h =
       | inr e ↦ let is : (c == minus) ≡ true = rw e at h in inr (eqb-true c minus is)
     ]
 
-sign_mark : (l : Locale) (c : ℕ) → is_sign c ≡ true → IsMark l c
-sign_mark l c h = elim (sign_cases c h) [ inl e ↦ rw e (plus_mark l) | inr e ↦ rw e (minus_mark l) ]
-
 something : (text : List ℕ) → text ≢ [] → is_nothing text ≡ false
 something [] h = absurd (h refl)
 something (c ∷ cs) h = refl

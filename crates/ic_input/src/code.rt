@@ -1,5 +1,5 @@
-ghost use Rattle.std.specs.Prelude.{◌≡◌, ◌++◌, ◌==◌, chars, codes, not, option_map, string_bytes, OnOk};
-ghost use Rattle.std.specs.List.{list_all, list_any};
+ghost use Rattle.std.specs.Prelude.{◌≡◌, ◌++◌, ◌==◌, chars, codes, option_map, string_bytes, OnOk};
+ghost use Rattle.std.specs.List.{list_any};
 ghost use Rattle.ic_laws.specs.Scan.{is_blank, past_run};
 ghost use Rattle.ic_laws.specs.Scene.{past_front};
 ghost use Rattle.ic_tables.specs.Formats.{may_stand_in_symbol};

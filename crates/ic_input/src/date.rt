@@ -1,5 +1,5 @@
 //! Dates: their day numbers, how they are typed and how they are shown.
-ghost use Rattle.std.specs.Prelude.{◌≡◌, ◌<◌, ◌≤◌, ◌^◌, ◌++◌, chars, length, option_map, string_bytes, IfSome, MatchOption, OnOk};
+ghost use Rattle.std.specs.Prelude.{◌≡◌, ◌<◌, ◌≤◌, ◌++◌, chars, length, option_map, string_bytes, IfSome, MatchOption, OnOk};
 ghost use Rattle.std.specs.Fmt.{decimal};
 ghost use Rattle.ic_laws.specs.AmountFront.{past_some};
 ghost use Rattle.ic_laws.specs.Character.{minus};

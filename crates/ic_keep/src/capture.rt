@@ -5,7 +5,6 @@ ghost use Rattle.ic_keep.specs.Alike.{kind_of, last_of, pairs_here, values_of};
 ghost use Rattle.ic_keep.specs.Capture.{captured, captured_beside, captured_formula};
 ghost use Rattle.ic_keep.specs.Capture.{is_captured, means, part_captured, some_captured, word_of};
 ghost use Rattle.ic_keep.specs.Change.{change_of};
-ghost use Rattle.ic_laws.specs.Changes.{is_of_name};
 
 use crate::KeyChange;
 use crate::change::{changed_key, is_same_key};

@@ -1,5 +1,5 @@
 -- Ids and names: the greatest, the fresh one, and how many there are.
-use Rattle.std.proofs.Common.{◌≡◌, ℕ, ◌+◌, ◌<◌, ◌≤◌, List, [], ◌∷◌, length, true, false, All, nat_eq, arith, max, inl, inr, Some, None, is_none, IfSome, nat_lt, if◌then◌else◌}
+use Rattle.std.proofs.Common.{◌≡◌, ℕ, ◌+◌, ◌<◌, ◌≤◌, List, [], ◌∷◌, length, true, false, All, nat_eq, arith, max, inl, inr, Some, None, is_none, nat_lt}
 use Rattle.std.specs.List.{list_any, IsDistinct}
 use Rattle.std.specs.Cmp.{IsEquivalence, on_equiv}
 use Rattle.std.specs.Cmp.Lexicographic.{nat_list_eq_equiv}
@@ -9,7 +9,7 @@ use Rattle.std.proofs.lemmas.Map.Keys.{IsDistinct-cons}
 use Rattle.std.proofs.lemmas.Map.Steps.{length-le_from_distinct_below}
 use Rattle.std.proofs.lemmas.Map.Views.{Contains-from_any}
 use Rattle.ic_laws.specs.Name.{agrees, fold}
-use Rattle.ic_laws.specs.CoreBook.{CoreBook, IsId, fresh_id, greatest_id, last_id, used_ids}
+use Rattle.ic_laws.specs.CoreBook.{CoreBook, IsId, fresh_id, greatest_id, last_id}
 use Rattle.ic_laws.specs.Greatest.{greatest}
 
 -- to agree is to be equal after folding, so it is an equivalence
@@ -49,11 +49,6 @@ ids_few ns each apart =
     positive : (n : ℕ) → 0 < n → nat_eq 0 n ≡ false
     positive n h = grind arith
 
--- a fresh id is greater than each id in use
-pub fresh_unused : (book : CoreBook) → IfSome (fresh_id book) (λ id. All (λ used. used < id) (used_ids book))
-fresh_unused book = elim (nat_lt (greatest_id book) last_id) as (λ b. IfSome (if b then Some (greatest_id book + 1) else None) (λ id. All (λ used. used < id) (used_ids book))) [
-  | true ↦ All-weaker (λ n. n ≤ greatest_id book) (λ n. n < greatest_id book + 1) (λ n h. omega (arith, h)) (used_ids book) (All-greatest (used_ids book))
-  | false ↦ tt
 ]
 
 -- where an id is left, it is one more than the greatest

@@ -13,7 +13,6 @@ pub struct Boxed<T> {
 }
 
 impl<T> Model for Boxed<T> {
-    ghost use Rattle.std.specs.Prelude.{List};
 
     ghost Value = { T };
 

@@ -3,7 +3,6 @@ use Rattle.std.proofs.Common.{◌≡◌, ◌≢◌, ◌↔◌, ◌⊎◌, ℕ, �
 use Rattle.std.specs.List.{list_any}
 use Rattle.std.proofs.lemmas.Bool.{or_parts}
 use Rattle.std.proofs.lemmas.Bool.Decides.{eqb_tells, leb_tells, nat_tests}
-use Rattle.std.proofs.lemmas.List.{append-nil}
 use Rattle.std.proofs.lemmas.List.Folds.{list_any-append}
 use Rattle.std.proofs.lemmas.Str.{encode_ascii, encodes-chars}
 use Rattle.ic_laws.specs.Lines.{escape_of, escape_meaning, escaped, unescaped}
@@ -65,20 +64,6 @@ spells_escape so left more w d m e k h =
     front_more so m (unescaped more)
     ∙ ap (λ o. option_map (λ t. so ++ t) (option_and_then (λ m. option_map (λ t. m ∷ t) (unescaped more)) o)) k
     ∙ ap (λ l. option_map (λ t. so ++ t) (unescaped l)) (sym e) ∙ h
-
--- a backslash at the end
-pub spells_none_at_end : (so left : List ℕ) (w : Option (List ℕ)) → left ≡ 92 ∷ [] → option_map (λ t. so ++ t) (unescaped left) ≡ w → None ≡ w
-spells_none_at_end so left w e h = ap (λ l. option_map (λ t. so ++ t) (unescaped l)) (sym e) ∙ h
-
--- a backslash with a character after it that it means nothing with
-pub spells_none : (so left more : List ℕ) (w : Option (List ℕ)) (d : ℕ) → left ≡ 92 ∷ d ∷ more → None ≡ escape_meaning d → option_map (λ t. so ++ t) (unescaped left) ≡ w → None ≡ w
-spells_none so left more w d e k h =
-    ap (λ o. option_map (λ t. so ++ t) (option_and_then (λ m. option_map (λ t. m ∷ t) (unescaped more)) o)) k
-    ∙ ap (λ l. option_map (λ t. so ++ t) (unescaped l)) (sym e) ∙ h
-
--- the end
-pub spells_last : (so left : List ℕ) (w : Option (List ℕ)) → left ≡ [] → option_map (λ t. so ++ t) (unescaped left) ≡ w → Some so ≡ w
-spells_last so left w e h = ap Some (sym (append-nil so)) ∙ ap (λ l. option_map (λ t. so ++ t) (unescaped l)) (sym e) ∙ h
 
 -- a text with one more character in front
 some_front : (c : ℕ) (o : Option (List ℕ)) → IsSome o → IsSome (option_map (λ t. c ∷ t) o)

@@ -1,4 +1,4 @@
-ghost use Rattle.std.specs.Prelude.{◌≡◌, ◌↔◌, ◌∷◌, ◌++◌, [], ℕ, List, Some, chars, string_bytes, IfOk, OnOk, IsNone};
+ghost use Rattle.std.specs.Prelude.{◌≡◌, ◌↔◌, ◌++◌, ℕ, List, Some, chars, string_bytes, IfOk, OnOk, IsNone};
 ghost use Rattle.ic_laws.specs.Lines.{escape_meaning, escape_of, escaped, unescaped};
 ghost use Rattle.std.specs.List.{list_any};
 ghost use Rattle.ic_lines.specs.Escapes.{HasWrongEscape, is_escaped};

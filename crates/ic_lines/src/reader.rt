@@ -1,4 +1,4 @@
-ghost use Rattle.std.specs.Prelude.{◌≡◌, ◌≢◌, ◌⊎◌, ℕ, ◌+◌, ◌++◌, ◌<◌, ◌≤◌, [], true, false, None, Some, Err, IsSome, chars, take, drop, length, vec_len, Contains, IfOk, IfErr, OnOk, OnErr, MatchOption, MatchResult};
+ghost use Rattle.std.specs.Prelude.{◌≡◌, ◌≢◌, ◌⊎◌, ◌+◌, ◌<◌, ◌≤◌, [], true, false, None, Some, Err, IsSome, chars, take, drop, length, vec_len, Contains, IfOk, IfErr, OnOk, OnErr, MatchOption, MatchResult};
 ghost use Rattle.ic_laws.specs.Lines.{line_text};
 ghost use Rattle.ic_lines.specs.Bytes.{IfTold, HasFault, ShowsEnd};
 ghost use Rattle.ic_lines.specs.Reading.{GivesHeld, GivesLine, GoesOn, HasToAsk, IsFirstLineFeed, Reading, SeesEnd, TakesAfter, TakesLine, TakesRead, budget, has_line_feed, most_turns, unread, without_return};

@@ -1,4 +1,4 @@
-ghost use Rattle.std.specs.Prelude.{◌≡◌, ◌≢◌, ℕ, ◌++◌, ◌<◌, ◌≤◌, ◌⊎◌, Some, [], false, length, IfOk, IsOk, OnOk, OnErr};
+ghost use Rattle.std.specs.Prelude.{◌≡◌, ◌<◌, ◌≤◌, ◌⊎◌, Some, [], false, length, IfOk, IsOk, OnOk, OnErr};
 ghost use Rattle.ic_lines.specs.Bytes.{MovesRead, MovesWritten, HasFault, ShowsEnd};
 ghost use Rattle.ic_lines.specs.Steady.{SteadySourceState, after_steady_read, after_steady_write, no_faults};
 

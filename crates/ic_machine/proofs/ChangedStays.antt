@@ -8,7 +8,7 @@ use Rattle.ic_laws.proofs.core.Named.{IsNamed, book_named}
 use Rattle.ic_laws.proofs.kept.Kept.{kept_is_kept}
 use Rattle.ic_laws.proofs.kept.Scenes.{FindsAlike, kept_where_alike}
 use Rattle.ic_laws.specs.CoreBook as core_book
-use Rattle.ic_laws.specs.CoreBook.{Definition, IsId, greatest_id, ids_of, last_id, spelling_of}
+use Rattle.ic_laws.specs.CoreBook.{Definition, IsId, last_id, spelling_of}
 use Rattle.ic_laws.specs.Keeping.{KeyChange, kept_formula, kept_in_body}
 use Rattle.ic_laws.specs.Name.{agrees, is_identifier, is_sheet_name}
 use Rattle.ic_laws.specs.Notations.{AreNotations, Notations, english_function}

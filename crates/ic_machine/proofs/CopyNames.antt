@@ -24,9 +24,6 @@ use Rattle.ic_machine.proofs.NumberLemmas.{small}
 abbrev opens : ℕ → Bool
 opens c = c == 40
 
-not_opened : (c : ℕ) (rest : List ℕ) → opens c ≡ false → list_any opens rest ≡ false → list_any opens (c ∷ rest) ≡ false
-not_opened c rest e f = rw (e, f) refl
-
 none_opens : (front rest : List ℕ) → list_any opens (front ++ 40 ∷ rest) ≡ true
 none_opens [] rest = refl
 none_opens (c ∷ front) rest = elim (cases_Bool (opens c)) [

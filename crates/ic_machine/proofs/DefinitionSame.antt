@@ -47,7 +47,7 @@ use Rattle.ic_machine.specs.Translation.{body_text, defined, in_notation, why_no
 use Rattle.ic_machine.specs.TranslationLaws.{DefinitionIsSame, IsWritable, LeavesSame}
 use Rattle.ic_machine.specs.Valid.{IsValidBook}
 use Rattle.ic_machine.specs.subjects.Definitions as definitions
-use Rattle.ic_machine.specs.subjects.Definitions.{definition_step, new_definition_step, with_new_definition}
+use Rattle.ic_machine.specs.subjects.Definitions.{new_definition_step, with_new_definition}
 use Rattle.ic_machine.proofs.BesideLemmas.{twin_valid}
 use Rattle.ic_machine.proofs.BodyAgain.{IsReferenceTo, body_kinds, is_lambda, lambda_again, reference_again}
 use Rattle.ic_machine.proofs.ChangedSame.{changed_same}

@@ -13,7 +13,7 @@ use Rattle.ic_laws.proofs.core.Named.{HasIdentifier, IsNamed, named_by}
 use Rattle.ic_laws.proofs.kept.Kept.{bound_kept, WritesNames, spelled_can_be_kept, spelling_writes}
 use Rattle.ic_laws.specs.Binding.{bound, spelled_with}
 use Rattle.ic_laws.specs.CoreBook as core_book
-use Rattle.ic_laws.specs.CoreBook.{Definition, IsId, fresh_id, greatest_id, has_sheet, ids_of, spelling_of, used_ids}
+use Rattle.ic_laws.specs.CoreBook.{Definition, IsId, fresh_id, has_sheet, ids_of, spelling_of, used_ids}
 use Rattle.ic_laws.specs.Keeping.{same_keys}
 use Rattle.ic_laws.specs.Name.{agrees, is_sheet_name}
 use Rattle.ic_laws.specs.Notations.{Notations, english_function}

@@ -37,7 +37,7 @@ use Rattle.ic_machine.specs.TranslationLaws.{FormulaIsSame, IsWritable, LeavesSa
 use Rattle.ic_machine.specs.Valid.{IsValidBook}
 use Rattle.ic_machine.specs.subjects.Reading.{formula_text}
 use Rattle.ic_machine.specs.subjects.Writing as writing
-use Rattle.ic_machine.specs.subjects.Writing.{formula_at_place, formula_content, formula_step, formula_written, with_written, write_step}
+use Rattle.ic_machine.specs.subjects.Writing.{formula_at_place, formula_content, formula_step, formula_written}
 use Rattle.ic_machine.proofs.BesideLemmas.{twin_valid}
 use Rattle.ic_machine.proofs.RetypedLemmas.{formula_told, read_again, some_shown}
 use Rattle.ic_machine.proofs.RetypedLemmas as retyped

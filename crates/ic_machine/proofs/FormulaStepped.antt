@@ -167,11 +167,6 @@ sign_begins c s = elim (cases_Bool (c == equals)) [
   | inr f ↦ f
 ]
 
-no_formula : (text : List ℕ) → begins_with_sign text ≡ true → is_formula_text text ≡ false
-no_formula [] e = refl
-no_formula (c ∷ []) e = refl
-no_formula (c ∷ d ∷ cs) e = sign_begins c e
-
 -- the machine's command, where no sign begins its text
 pub formula_told : (b : Book) (index : ℕ) (place : CellPlace) (text : List ℕ) → TakesFormula b index place → begins_with_sign text ≡ false
     → told_by (formula_step index place text b) ≡ told_by_core (core_step (notations_in b) (core_of b) (commands.UpdateCellWithFormula index place.0 place.1 text))

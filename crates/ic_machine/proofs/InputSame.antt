@@ -19,7 +19,7 @@ use Rattle.ic_machine.specs.Translation.{IsTypedSo, cell_text, formula_in_cell, 
 use Rattle.ic_machine.specs.TranslationLaws.{InputIsSame, IsWritable, LeavesSame}
 use Rattle.ic_machine.specs.Valid.{IsValidBook}
 use Rattle.ic_machine.specs.subjects.Writing as writing
-use Rattle.ic_machine.specs.subjects.Writing.{formula_at_place, formula_written, input_step, typed_written, with_content}
+use Rattle.ic_machine.specs.subjects.Writing.{formula_at_place, input_step, typed_written, with_content}
 use Rattle.ic_machine.proofs.BesideLemmas.{twin_valid}
 use Rattle.ic_machine.proofs.FormulaSame.{formula_again, target, texts_same, typed_there}
 use Rattle.ic_machine.proofs.RetypedLemmas.{empty_typed, number_told, quoted_typed, same_text}

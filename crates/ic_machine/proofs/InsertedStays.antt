@@ -16,7 +16,7 @@ use Rattle.ic_laws.proofs.core.Made.{key, made_valid}
 use Rattle.ic_laws.proofs.core.Named.{HasIdentifier, HasSheetName, IsNamed, book_named, named_by}
 use Rattle.ic_laws.proofs.kept.TreeFacts.{tree_facts}
 use Rattle.ic_laws.specs.CoreBook as core_book
-use Rattle.ic_laws.specs.CoreBook.{CoreBook, Definition, IsId, fresh_id, greatest_id, has_sheet, ids_of, last_id, spelling_of, used_ids}
+use Rattle.ic_laws.specs.CoreBook.{CoreBook, Definition, IsId, fresh_id, has_sheet, ids_of, last_id, used_ids}
 use Rattle.ic_laws.specs.Keeping.{KeyChange, same_keys}
 use Rattle.ic_laws.specs.Name.{agrees, is_sheet_name}
 use Rattle.ic_laws.specs.Notations.{Notations}

@@ -9,7 +9,7 @@ use Rattle.ic_laws.proofs.kept.Kept.{found_has}
 use Rattle.ic_laws.specs.Lines.{escaped, unescaped, word_texts, words_of}
 use Rattle.ic_machine.specs.Command.{Command, OnArrays, OnDefinitions, OnExtending, OnLayout, OnNotation, OnReading, OnSheets, OnStyles, OnTabs, OnWriting, command_in, commands}
 use Rattle.ic_machine.specs.Row.{Row, joined, row_in, spelled}
-use Rattle.ic_machine.specs.Word.{AllSaid, Done, OfText, Said, Then, Many, WordForm, Words, all_said, said, words_said}
+use Rattle.ic_machine.specs.Word.{AllSaid, Done, OfText, Said, Then, WordForm, Words, all_said, said, words_said}
 use Rattle.ic_machine.specs.Word as forms
 use Rattle.ic_machine.specs.subjects.Arrays as arrays
 use Rattle.ic_machine.specs.subjects.Definitions as definitions

@@ -10,7 +10,7 @@ use Rattle.ic_machine.specs.Reply.{Field, Reply}
 use Rattle.ic_machine.specs.Same.{IsSameBook}
 use Rattle.ic_machine.specs.Step.{command_step, english_errors, line_step, outcome_of, step}
 use Rattle.ic_machine.specs.Translation.{AreTranslatedTexts, IsKeptLine, in_notation, is_dropped, is_switch, kept_command, kept_in, left_by, line_of, own_formula, texts_of, why_line_not, why_not}
-use Rattle.ic_machine.specs.TranslationLaws.{BodyEndsPlain, ErrorsEndPlain, IsBeside, IsWritable, LeavesSame, LineIsSame, looks_at_notation}
+use Rattle.ic_machine.specs.TranslationLaws.{BodyEndsPlain, ErrorsEndPlain, IsBeside, IsWritable, LeavesSame, looks_at_notation}
 use Rattle.ic_machine.specs.subjects.Arrays as arrays
 use Rattle.ic_machine.specs.subjects.Definitions as definitions
 use Rattle.ic_machine.specs.subjects.Definitions.{Update}
@@ -165,11 +165,6 @@ line_stays_same locale language book left other command line new beside kept pla
     let same : command ≡ OnDefinitions (definitions.UpdateDefinedName update) = cc in
     subst (BodyEndsPlain book (in_notation locale language left)) same plain in
     by_command locale language book left other line beside ends command whole (writable_of locale language book left command line kept none) are.0 new are.1.0 are.1.1
-
-pub line_is_same : (locale language : List ℕ) → LineIsSame locale language
-line_is_same locale language book left other command line new beside kept plain none are =
-    let stays = line_stays_same locale language book left other command line new beside kept plain none are in
-    (stays.fields, stays.accepted, stays.same)
 
 -- where no error word ends with a blank, no body does that a line updates
 body_ends_plain : (locale language : List ℕ) (book left other : Book) (line : List ℕ) (command : Command) → IsBeside locale language book other → ErrorsEndPlain other → IsKeptAs book line command left

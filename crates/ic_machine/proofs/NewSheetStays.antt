@@ -10,7 +10,7 @@ use Rattle.ic_laws.proofs.keeping.Accepted.{none_refuses}
 use Rattle.ic_laws.proofs.keeping.Renames.{add_binds}
 use Rattle.ic_laws.proofs.kept.TreeFacts.{tree_facts}
 use Rattle.ic_laws.specs.CoreBook as core_book
-use Rattle.ic_laws.specs.CoreBook.{CoreBook, fresh_id, greatest_id, has_sheet, last_id, names_of, scene_of}
+use Rattle.ic_laws.specs.CoreBook.{CoreBook, fresh_id, has_sheet, names_of, scene_of}
 use Rattle.ic_laws.specs.CoreStep as core
 use Rattle.ic_laws.specs.CoreStep.{add_sheet_causes}
 use Rattle.ic_laws.specs.Name.{is_sheet_name}

@@ -18,7 +18,7 @@ use Rattle.ic_machine.specs.subjects.Layout as layout
 use Rattle.ic_machine.specs.subjects.Notation as notation
 use Rattle.ic_machine.specs.subjects.Notation.{get_language_step, get_locale_step, get_timezone_step, set_language_step, set_locale_step, set_timezone_step, settings_step}
 use Rattle.ic_machine.specs.subjects.Styles as styles
-use Rattle.ic_machine.specs.subjects.Styles.{cell_style_step, column_style_step, own_style_step, row_style_step, set_column_step, set_row_step, style_index_step}
+use Rattle.ic_machine.specs.subjects.Styles.{set_column_step, set_row_step}
 use Rattle.ic_machine.specs.subjects.Tabs as tabs
 use Rattle.ic_machine.specs.subjects.Tabs.{get_theme_step, set_theme_step}
 use Rattle.ic_machine.specs.subjects.Writing as writing

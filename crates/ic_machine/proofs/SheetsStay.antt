@@ -36,7 +36,7 @@ use Rattle.ic_machine.specs.Step.{step}
 use Rattle.ic_machine.specs.Valid.{IsValidBook}
 use Rattle.ic_machine.specs.subjects.Definitions.{with_new_definition}
 use Rattle.ic_machine.specs.subjects.Sheets as sheets
-use Rattle.ic_machine.specs.subjects.Sheets.{add_sheet_step, delete_by_id_step, delete_by_name_step, delete_sheet_step, move_sheet_step, rename_by_index_step, rename_sheet_step, sheet_step, with_new_sheet}
+use Rattle.ic_machine.specs.subjects.Sheets.{move_sheet_step, with_new_sheet}
 use Rattle.ic_machine.proofs.ChangedStays.{all_hold, changed_stays, holds_alike, kept_definitions, kept_sheets, rebuilt, scene_same, seen, seen_kept, spelled_kept}
 use Rattle.ic_machine.proofs.CoreLemmas.{core_of-moved}
 use Rattle.ic_machine.proofs.CoreValid.{core_stays, core_valid, map_twice}

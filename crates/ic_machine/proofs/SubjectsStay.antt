@@ -25,7 +25,7 @@ use Rattle.ic_machine.specs.subjects.Extending.{Extending, extending_step}
 use Rattle.ic_machine.specs.subjects.Layout as layout
 use Rattle.ic_machine.specs.subjects.Layout.{Layout, column_hidden_step, get_height_step, get_width_step, hide_column_step, hide_row_step, layout_step, row_hidden_step, set_height_step, set_width_step}
 use Rattle.ic_machine.specs.subjects.Notation as notation
-use Rattle.ic_machine.specs.subjects.Notation.{Notation, get_language_step, get_locale_step, get_timezone_step, notation_step, set_language_step, set_locale_step, set_timezone_step, settings_step}
+use Rattle.ic_machine.specs.subjects.Notation.{Notation, notation_step, set_language_step, set_locale_step, set_timezone_step}
 use Rattle.ic_machine.specs.subjects.Reading.{Reading, reading_step}
 use Rattle.ic_machine.specs.subjects.Tabs as tabs
 use Rattle.ic_machine.specs.subjects.Tabs.{Tabs, color_step, freeze_columns_step, freeze_rows_step, frozen_columns_step, frozen_rows_step, get_theme_step, grid_lines_step, set_theme_step, state_step, tab_step}

@@ -42,7 +42,7 @@ use Rattle.ic_machine.specs.Translation.{body_text, defined, in_notation, update
 use Rattle.ic_machine.specs.TranslationLaws.{BodyEndsPlain, ErrorsEndPlain, IsBeside, IsWritable, LeavesSame, UpdateIsSame}
 use Rattle.ic_machine.specs.Valid.{IsValidBook}
 use Rattle.ic_machine.specs.subjects.Definitions as definitions
-use Rattle.ic_machine.specs.subjects.Definitions.{Update, captures, keys_of_update, meets_other, new_key, new_scope_id, old_key, old_scope, scene_updated, update_body, update_causes, update_name_step, update_sites, updated_book, updated_index, with_body, with_update}
+use Rattle.ic_machine.specs.subjects.Definitions.{Update, keys_of_update, new_scope_id, old_key, old_scope, scene_updated, update_body, update_causes, update_name_step, update_sites, updated_book, updated_index, with_body, with_update}
 use Rattle.ic_machine.proofs.BesideLemmas.{twin_valid}
 use Rattle.ic_machine.proofs.ChangedSame.{changed_same}
 use Rattle.ic_machine.proofs.ChangedStays.{kept_definitions, kept_sheets, seen_kept, spelled_kept}

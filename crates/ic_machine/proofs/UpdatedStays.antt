@@ -18,7 +18,7 @@ use Rattle.ic_laws.proofs.kept.TreeFacts.{tree_facts}
 use Rattle.ic_laws.specs.Binding.{bound}
 use Rattle.ic_laws.specs.Character.{equals}
 use Rattle.ic_laws.specs.CoreBook as core_book
-use Rattle.ic_laws.specs.CoreBook.{CoreBook, Definition, IsId, scene_of, spelling_of}
+use Rattle.ic_laws.specs.CoreBook.{Definition, IsId, spelling_of}
 use Rattle.ic_laws.specs.CoreStep.{has_definition, is_named, scope_or_none, updated_at}
 use Rattle.ic_laws.specs.Dialect.{DialectMeaning}
 use Rattle.ic_laws.specs.FormulaReading.{Body, shown_at, trimmed, without_equals}

@@ -13,7 +13,7 @@ use Rattle.std.specs.declared.cmp.Ordering.{Ordering}
 use Rattle.std.specs.declared.cmp.Ordering.TheVariants.{Less, Equal, Greater}
 use Rattle.ic_laws.proofs.core.Lists.{length_updated}
 use Rattle.ic_laws.specs.CoreBook.{IsId}
-use Rattle.ic_laws.specs.CoreStep.{Outcome, updated_at}
+use Rattle.ic_laws.specs.CoreStep.{updated_at}
 use Rattle.ic_laws.specs.Name.{agrees, is_sheet_name}
 use Rattle.ic_laws.specs.Notations.{Notations}
 use Rattle.ic_laws.specs.Position.{is_column, is_row}
@@ -25,7 +25,7 @@ use Rattle.ic_cells.specs.Style.{AreStyles}
 use Rattle.ic_cells.specs.declared.style.Style.{Style}
 use Rattle.ic_grid.specs.Conditions.{AreArrays, AreInSheet, AreMerges}
 use Rattle.ic_grid.specs.Style.{Columns, Rows}
-use Rattle.ic_machine.specs.Book.{Book, Grid, Sheet, Stepped, Tab, as_core, found_or, notations_in, on_grid, on_tab, put_in, scene_in, unless, with_sheet}
+use Rattle.ic_machine.specs.Book.{Book, Grid, Sheet, Stepped, Tab, found_or, notations_in, on_grid, on_tab, put_in, scene_in, unless, with_sheet}
 use Rattle.ic_machine.specs.Content.{held}
 use Rattle.ic_machine.specs.Kept.{StaysValid, StaysValidIf}
 use Rattle.ic_machine.specs.Readers.{Leaves}
@@ -158,10 +158,6 @@ by_asking false stepped h = tt
 pub stays_leaving : (b : Book) → IsValidBook b → (stepped : Stepped Book) → Leaves b stepped → StaysValid stepped
 stays_leaving b valid (Ok done) h = subst IsValidBook (sym h) valid
 stays_leaving b valid (Err refusal) h = tt
-
-pub stays_core : (o : Outcome) (left : Book) → ((done : Book) → IsValidBook left) → StaysValid (as_core o left)
-stays_core (Ok done) left h = h left
-stays_core (Err refusal) left h = tt
 
 -- what a step on a tab, or on a grid, has to leave
 abbrev pub TabStays : Stepped Tab → Type 0

@@ -3,7 +3,7 @@ use Rattle.std.proofs.Common.{◌≡◌, ℕ, List, [], ◌∷◌, Bool, true, f
 use Rattle.std.specs.Prelude.{nat_eq}
 use Rattle.std.proofs.lemmas.Bool.{eq-eqb, eqb-true, or_parts}
 use Rattle.std.proofs.lemmas.Slice.Eq.{bytes_eq-Decides}
-use Rattle.ic_laws.specs.Changes.{Change, could_mean, could_mean_local, definition_added, dangles_by, is_of_name, is_of_sheet, sheet_gone, sheet_named}
+use Rattle.ic_laws.specs.Changes.{could_mean, could_mean_local, definition_added, dangles_by, is_of_name, is_of_sheet, sheet_gone, sheet_named}
 use Rattle.ic_laws.specs.Changes as changes
 use Rattle.ic_laws.specs.Name.{fold}
 use Rattle.ic_laws.specs.Scene.{key_of, same_scope}

@@ -52,9 +52,6 @@ not_out_at before hash at elsewhere other = by_test (nat_eq hash other) refl
 pub same_found : (before after : LookUp) (xs : List Formula) → IsSame before after → (q : List ℕ) → found after xs q ≡ found before xs q
 same_found before after xs same q = ap₂ (λ a b. first_of a (checked xs q b)) (same.by_key q) (same.by_hash (hash_of q))
 
-pub same_hashed : (before after : LookUp) (xs : List Formula) → IsSame before after → AreHashed before xs → AreHashed after xs
-same_hashed before after xs same hashed hash at e = hashed hash at (sym (same.by_hash hash) ∙ e)
-
 -- ---- none
 
 pub same_both : (b : Bool) (o : Option ℕ) → o ≡ cond b o o
@@ -71,17 +68,6 @@ pub empty_hashed : (look : LookUp) (xs : List Formula) → IsEmpty look → AreH
 empty_hashed look xs none hash at e = let no : None ≡ Some at = sym (none.by_hash hash) ∙ e in cc
 
 -- ---- a place that is found gets its key
-
-pub kept_found : (before after : LookUp) (xs : List Formula) (key : List ℕ) (at : ℕ) → IsKept key at before after → found before xs key ≡ Some at → (q : List ℕ) → found after xs q ≡ found before xs q
-kept_found before after xs key at kept is q =
-    ap₂ (λ a b. first_of a (checked xs q b)) (kept.by_key q) (kept.by_hash (hash_of q)) ∙ by_test (bytes_eq key q) refl
-  where
-    by_test : (b : Bool) → bytes_eq key q ≡ b → first_of (cond b (Some at) (by_key before q)) (checked xs q (by_hash before (hash_of q))) ≡ found before xs q
-    by_test true same = sym is ∙ ap (found before xs) ((bytes_eq-Decides key q).0 same)
-    by_test false other = refl
-
-pub kept_hashed : (before after : LookUp) (xs : List Formula) (key : List ℕ) (at : ℕ) → IsKept key at before after → AreHashed before xs → AreHashed after xs
-kept_hashed before after xs key at kept hashed hash k e = hashed hash k (sym (kept.by_hash hash) ∙ e)
 
 -- ---- a place is put in
 

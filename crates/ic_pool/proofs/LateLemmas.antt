@@ -385,11 +385,3 @@ look_up_anew index knows late xs list places hashed same = record {
   rest = λ e. subst (λ ys. KnowsRest (found index ys) late ys) (sym same) (whole_knows (found index xs) late xs places);
   hashed = subst (AreHashed index) (sym same) hashed;
 }
-
--- what is found stays alike
-pub look_up_alike : (before after : LookUp) (is_whole knows : Bool) (late : List ℕ) (xs list : List Formula) → IsLookUp before is_whole knows late xs → ((q : List ℕ) → found after xs q ≡ found before xs q) → AreHashed after xs → list ≡ xs → IsLookUp after is_whole knows late list
-look_up_alike before after is_whole knows late xs list kept alike hashed same = record {
-  finds = λ w. subst (λ ys. KeepsPlaces (found after ys) ys) (sym same) (record { finds = λ key. alike key ∙ (kept.finds w).finds key });
-  rest = λ k. subst (λ ys. KnowsRest (found after ys) late ys) (sym same) (knows_alike (found before xs) (found after xs) late xs alike (kept.rest k));
-  hashed = subst (AreHashed after) (sym same) hashed;
-}

@@ -21,7 +21,6 @@ use Rattle.ic_laws.specs.declared.tree.PrefixSign.{PrefixSign}
 use Rattle.ic_laws.specs.declared.tree.PrefixSign.TheVariants as prefixes
 use Rattle.ic_laws.specs.declared.tree.SheetMention.{SheetMention}
 use Rattle.ic_laws.specs.declared.tree.SheetMention.TheVariants as sheets
-use Rattle.ic_laws.specs.declared.tree.Tree.TheOpen.{LetPair-F}
 use Rattle.ic_laws.specs.declared.tree.Tree.TheOpen as one
 use Rattle.ic_pool.specs.Code.{bit, int_sign, int_size, high, low, error_number, prefix_number, sign_number, position_kind, position_value, place_numbers, sheet_kind, sheet_id, sheet_text, scope_numbers, word_numbers, word_text, constant_text, numbers, texts, pairs_of, trees_of}
 

@@ -1,5 +1,5 @@
 //! Where formulas are found by their keys.
-ghost use Rattle.std.specs.Prelude.{◌≡◌, ℕ, List, None, Some, false, true, is_some, IfOk, OnErr, OnOk};
+ghost use Rattle.std.specs.Prelude.{◌≡◌, None, Some, false, true, is_some, IfOk, OnErr, OnOk};
 ghost use Rattle.std.specs.BTreeMap.{Updates, get};
 ghost use Rattle.std.specs.List.{slice_get};
 ghost use Rattle.std.specs.Ordering.{nat_cmp};

@@ -1,5 +1,5 @@
 -- The column that a text names, by its tests one after the other.
-use Rattle.std.proofs.Common.{◌≡◌, ◌≢◌, ℕ, pos, ◌≤◌, List, [], ◌∷◌, ◌++◌, true, false, nat_lt, nat_le, chars, encode_utf8_all, IsUtf8, length, Ok, Err, refl, sym, ◌∙◌, ap, arith}
+use Rattle.std.proofs.Common.{◌≡◌, ◌≢◌, ℕ, pos, ◌≤◌, List, [], ◌∷◌, ◌++◌, true, nat_lt, nat_le, chars, encode_utf8_all, IsUtf8, length, Ok, Err, refl, sym, ◌∙◌, ap, arith}
 use Rattle.std.specs.List.{list_all}
 use Rattle.std.proofs.lemmas.Bool.{le-leb, leb-true, false_from_ne_true}
 use Rattle.std.proofs.lemmas.List.{append-nil, nil_from_length}
@@ -23,14 +23,6 @@ some_chars bytes u n e = n (ap length (sym (encodes-chars bytes u) ∙ ap encode
 
 pub number_empty : (cs : List ℕ) → cs ≡ [] → column_number cs ≡ Err errors.Empty
 number_empty cs e = ap column_number e
-
-pub number_not_ascii : (cs : List ℕ) → cs ≢ [] → list_all (λ c. nat_lt c 128) cs ≡ false → column_number cs ≡ Err errors.NotAscii
-number_not_ascii [] n a = absurd (n refl)
-number_not_ascii (c ∷ cs) n a = rw a refl
-
-pub number_not_letters : (cs : List ℕ) → cs ≢ [] → list_all (λ c. nat_lt c 128) cs ≡ true → list_all is_upper cs ≡ false → column_number cs ≡ Err errors.NotLetters
-number_not_letters [] n a u = absurd (n refl)
-number_not_letters (c ∷ cs) n a u = rw (a, u) refl
 
 -- all letters are read where the column is one of the sheet, and else not all of them
 all_read : (cs : List ℕ) (n : ℕ) → letters_from 0 cs ≡ (n, []) → (letters_number cs ≡ n) × (n ≤ 16384)

@@ -55,10 +55,6 @@ front_first : (front rest : List ℕ) → first_is is_blank (front ++ rest) ≡ 
 front_first [] rest h = refl
 front_first (c ∷ cs) rest h = h
 
-first_front : (front rest : List ℕ) → first_is is_blank front ≡ false → first_is is_blank rest ≡ false → first_is is_blank (front ++ rest) ≡ false
-first_front [] rest h k = k
-first_front (c ∷ cs) rest h k = h
-
 trimmed_is : (text : List ℕ) → IsTrimmedOf text (trimmed text)
 trimmed_is text =
     let left = past_run is_blank text in

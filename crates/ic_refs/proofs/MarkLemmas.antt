@@ -142,12 +142,6 @@ no_mark m (c ∷ cs) n h =
 pub place_no_bang : (row column : ℤ) (text : List ℕ) (place : Place) → SpellsPlace row column text place → list_any (λ c. c == 33) text ≡ false
 place_no_bang row column text place s = no_mark 33 text refl (place_is_text row column text place s).all
 
-pub place_no_quote : (row column : ℤ) (text : List ℕ) (place : Place) → SpellsPlace row column text place → list_any (λ c. c == 39) text ≡ false
-place_no_quote row column text place s = no_mark 39 text refl (place_is_text row column text place s).all
-
-pub place_not_empty : (row column : ℤ) (text : List ℕ) (place : Place) → SpellsPlace row column text place → 0 < length text
-place_not_empty row column text place s = (place_is_text row column text place s).some
-
 -- and what follows it up to an end is no sheet's name
 front_no_quote : (cs rest : List ℕ) → IsPlaceText cs → first_is (λ c. c == 39) (cs ++ rest) ≡ false
 front_no_quote [] rest t = absurd (omega (arith, t.some))

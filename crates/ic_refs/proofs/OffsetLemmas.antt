@@ -2,7 +2,7 @@
 use Rattle.std.proofs.Common.{◌≡◌, true, false, ◌&&◌, ◌||◌, ℕ, ◌-◌, ◌≤◌, ◌<◌, List, ◌++◌, length, drop, nat_le, nat_lt, Option, Some, None, option_map, chars, encode_utf8_all, IsUtf8, refl, sym, ◌∙◌, ap, inl, inr, arith}
 use Rattle.std.specs.List.{slice_index}
 use Rattle.std.specs.Str.{IsCharBoundary}
-use Rattle.std.proofs.lemmas.Bool.{both_ways, cases_Bool, cond-true}
+use Rattle.std.proofs.lemmas.Bool.{both_ways, cases_Bool}
 use Rattle.std.proofs.lemmas.Bool.Decides.{nat_tests}
 use Rattle.std.proofs.lemmas.List.{length-append}
 use Rattle.std.proofs.lemmas.Str.{encodes-append, encodes-chars, IsUtf8-drop}
@@ -24,27 +24,9 @@ boundary_true text at h = boundary_to at (length text) (slice_index text at) h.0
 pub boundary_false : (text : List ℕ) (at : ℕ) → (IsCharBoundary text at → ⊥) → is_char_boundary text at ≡ false
 boundary_false text at h = elim (cases_Bool (is_char_boundary text at)) [ inl e ↦ absurd (h (boundary_holds text at e)) | inr e ↦ e ]
 
--- what a reader finds, by the bytes of the text and of the rest
-pub read_found : {T : Type 0} (reader : List ℕ → Option (T × List ℕ)) (text rest after : List ℕ) (at : ℕ) (value : T) → is_char_boundary text at ≡ true → rest ≡ drop at text → IsUtf8 after → reader (chars rest) ≡ Some (value, chars after) → Some (value, length rest - length after) ≡ read_at reader text at
-read_found {T} reader text rest after at value b r u e =
-    let sized : T × List ℕ → T × ℕ = λ f. (f.0, length (drop at text) - length (encode_utf8_all f.1)) in
-    sym (cond-true (is_char_boundary text at) (option_map sized (reader (chars (drop at text)))) None b
-    ∙ ap (option_map sized) (ap (λ t. reader (chars t)) (sym r) ∙ e)
-    ∙ ap (λ t. Some (value, length t - length (encode_utf8_all (chars after)))) (sym r)
-    ∙ ap (λ a. Some (value, length rest - length a)) (encodes-chars after u))
-
 -- nothing begins there
 pub read_outside : {T : Type 0} (reader : List ℕ → Option (T × List ℕ)) (text : List ℕ) (at : ℕ) → is_char_boundary text at ≡ false → None ≡ read_at reader text at
 read_outside reader text at b = rw b refl
-
--- nothing is found
-pub read_nothing : {T : Type 0} (reader : List ℕ → Option (T × List ℕ)) (text rest : List ℕ) (at : ℕ) → rest ≡ drop at text → reader (chars rest) ≡ None → None ≡ read_at reader text at
-read_nothing {T} reader text rest at r e =
-    let sized : T × List ℕ → T × ℕ = λ f. (f.0, length (drop at text) - length (encode_utf8_all f.1)) in
-    elim (cases_Bool (is_char_boundary text at)) [
-      | inl b ↦ sym (cond-true (is_char_boundary text at) (option_map sized (reader (chars (drop at text)))) None b ∙ ap (option_map sized) (ap (λ t. reader (chars t)) (sym r) ∙ e))
-      | inr b ↦ read_outside reader text at b
-    ]
 
 module _ {T : Type 0} (Spells : List ℕ → T → Type 0) (reader : List ℕ → Option (T × List ℕ)) (finds : (text : List ℕ) → FindsLongest Spells text (reader text)) where
   longest_from : (text : List ℕ) (at : ℕ) (found : Option (T × List ℕ)) → IsUtf8 text → IsCharBoundary text at → FindsLongest Spells (chars (drop at text)) found → FindsLongestAt Spells text at (option_map (λ (f : T × List ℕ). (f.0, length (drop at text) - length (encode_utf8_all f.1))) found)

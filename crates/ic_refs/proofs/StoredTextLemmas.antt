@@ -148,6 +148,3 @@ apart_from x d r c o l m k = record { digit = λ c h. other_than_digit c x h d; 
 
 pub no_bang_in_place : (text : List ℕ) (place : Place) → SpellsPlace text place → list_any (λ c. eqb c 33) text ≡ false
 no_bang_in_place text place s = none_in_place (λ c. eqb c 33) text place (apart_from 33 refl refl refl refl refl refl refl) s
-
-pub no_quote_in_place : (text : List ℕ) (place : Place) → SpellsPlace text place → list_any (λ c. eqb c 39) text ≡ false
-no_quote_in_place text place s = none_in_place (λ c. eqb c 39) text place (apart_from 39 refl refl refl refl refl refl refl) s

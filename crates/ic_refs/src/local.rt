@@ -1,5 +1,4 @@
 ghost use Rattle.std.specs.Prelude.{◌≡◌, ◌++◌, ℕ, List, None, chars, drop, option_map, IfOk};
-ghost use Rattle.std.specs.Str.{IsCharBoundary};
 ghost use Rattle.ic_laws.specs.Scan.{IsEnd};
 ghost use Rattle.ic_laws.specs.SheetText.{read_local};
 ghost use Rattle.ic_refs.specs.Local.{FindsLocalAt, IsOtherWord};

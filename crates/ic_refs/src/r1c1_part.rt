@@ -1,5 +1,5 @@
 ghost use Rattle.std.specs.Prelude.{◌≡◌, ◌≤◌, ◌<◌, ◌^◌, ◌≤ℤ◌, nat_abs, MatchResult, chars, pos, neg_ℤ};
-ghost use Rattle.ic_laws.specs.Scan.{is_digit, first_is, past_run};
+ghost use Rattle.ic_laws.specs.Scan.{is_digit, past_run};
 ghost use Rattle.ic_refs.specs.R1C1.{Gives, number_at, absolute, wrapped, offset, past_bracket, offset_on_at, offset_back_at, offset_at, absolute_at, part_at};
 
 use crate::error::ReferenceError;

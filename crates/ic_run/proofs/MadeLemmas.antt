@@ -1,5 +1,5 @@
 -- The lines that are made: each is plain text.
-use Rattle.std.proofs.Common.{◌≡◌, ◌/◌, ◌^◌, ℕ, ◌==◌, List, [], ◌∷◌, ◌++◌, Ok, Some, chars, codes, false, true, ap, append-nil, inl, inr, refl, sym, ◌∙◌, IsAscii}
+use Rattle.std.proofs.Common.{◌≡◌, ℕ, ◌==◌, List, [], ◌∷◌, ◌++◌, Ok, Some, chars, codes, false, true, ap, append-nil, inl, inr, refl, sym, ◌∙◌, IsAscii}
 use Rattle.std.specs.Fmt.{decimal}
 use Rattle.std.proofs.lemmas.Bool.{cases_Bool}
 use Rattle.std.proofs.lemmas.Str.{IsAscii-append, chars-IsAscii}
@@ -8,7 +8,7 @@ use Rattle.ic_lines.proofs.LineLemmas.{no_line_feed-append}
 use Rattle.ic_lines.specs.Reading.{has_line_feed}
 use Rattle.ic_machine.specs.Reply.{Field, NumberField, field_word}
 use Rattle.ic_words.proofs.ReplyLemmas.{IsAscii-digits, are_ascii, fields_line, number_characters, number_pushed, tested_ascii}
-use Rattle.ic_run.specs.Make.{IsPlainLine, after_draws, code_at, made_text, next_state, written_at}
+use Rattle.ic_run.specs.Make.{IsPlainLine, code_at, made_text, written_at}
 use Rattle.ic_run.specs.declared.made.MadeCommand.{MadeCommand}
 use Rattle.ic_run.specs.declared.made.MadeCommand.TheVariants as made
 
@@ -76,12 +76,3 @@ plain_line text m e =
       characters = ap chars e ∙ chars-IsAscii (made_text m) p.0 ∙ sym e;
       one_line = ap has_line_feed e ∙ p.1;
     }
-
--- the first draws from 0 and from 1
-first_from_0 : after_draws 1 0 / 2 ^ 33 ≡ 167951807
-unfolding next_state
-first_from_0 = refl
-
-first_from_1 : after_draws 1 1 / 2 ^ 33 ≡ 908834774
-unfolding next_state
-first_from_1 = refl

@@ -28,10 +28,6 @@ left_accepted : (book : Book) (made : Stepped Book) → true ≡ is_ok (outcome_
 left_accepted book (Ok done) e = refl
 left_accepted book (Err refusal) e = cc
 
-left_refused : (book : Book) (made : Stepped Book) → false ≡ is_ok (outcome_of book made).1 → left_by made ≡ None
-left_refused book (Ok done) e = cc
-left_refused book (Err refusal) e = refl
-
 stays_refused : (book : Book) (made : Stepped Book) → left_by made ≡ None → book ≡ (outcome_of book made).0
 stays_refused book (Ok done) e = cc
 stays_refused book (Err refusal) e = refl

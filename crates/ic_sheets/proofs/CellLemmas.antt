@@ -1,5 +1,5 @@
 -- A formula is written into a cell: the places of cells as the code has them, and what stands where then.
-use Rattle.std.proofs.Common.{◌≡◌, ◌∙◌, ℕ, ℤ, SFits, to_z, of_z, w32, Some, None, Bool, true, is_some, Option, refl, sym, ap, ap₂, subst}
+use Rattle.std.proofs.Common.{◌≡◌, ◌∙◌, ℕ, ℤ, SFits, to_z, of_z, w32, Some, None, Bool, true, is_some, Option, sym, ap, ap₂, subst}
 use Rattle.std.proofs.lemmas.Int.{to_z-of_z}
 use Rattle.std.specs.FinMap as finite
 use Rattle.std.specs.Prelude.{option_and_then}
@@ -11,13 +11,12 @@ use Rattle.ic_grid.specs.Arrays.{anchor_of}
 use Rattle.ic_grid.specs.Block.{Place, block_at}
 use Rattle.ic_grid.specs.Contents.{Contents}
 use Rattle.ic_grid.specs.Prepare.{released_if, written}
-use Rattle.ic_grid.specs.Shape.{celled, is_loose, shape_of}
+use Rattle.ic_grid.specs.Shape.{celled, shape_of}
 use Rattle.ic_grid.specs.declared.grid.Grid.{Grid}
 use Rattle.ic_pool.specs.Pool.{IsPlaced, PoolState}
 use Rattle.ic_sheets.specs.Sheet.{IsWritten, MakesCell, TakesCell, WritesNew, formula_cell, with_cell_in}
 use Rattle.ic_sheets.specs.declared.sheet.Entered.{Entered}
 use Rattle.ic_sheets.specs.declared.sheet.FormulaKind.{FormulaKind}
-use Rattle.ic_sheets.specs.declared.sheet.FormulaKind.TheVariants as kinds
 use Rattle.ic_sheets.specs.declared.sheet.Sheet.{Sheet}
 
 -- a row and a column as they are stored
@@ -28,11 +27,6 @@ stored_pair r c fits fits_too = ap₂ (λ (x y : ℤ). (x, y)) (to_z-of_z w32 r 
 pub stored_block : (row column width height : ℤ) → SFits w32 row → SFits w32 column → SFits w32 width → SFits w32 height
     → block_at (to_z w32 (of_z w32 row), to_z w32 (of_z w32 column)) (to_z w32 (of_z w32 width)) (to_z w32 (of_z w32 height)) ≡ block_at (row, column) width height
 stored_block row column width height r c w h = ap₂ (λ (p size : Place). block_at p size.0 size.1) (stored_pair row column r c) (stored_pair width height w h)
-
--- the cell of a formula is no part of an array of several cells
-pub formula_loose : (kind : FormulaKind) (at style : ℕ) → is_loose (shape_of (formula_cell kind at style)) ≡ true
-formula_loose kinds.Single at style = refl
-formula_loose kinds.Dynamic at style = refl
 
 -- a sheet whose look-up was made whole first, and then a cell written
 pub written_whole : (formula : Formula) (kind : FormulaKind) (style : ℕ) (stored k : CellPlace) (sheet after : Sheet) (whole : PoolState) → stored ≡ k → whole ≡ record { formulas = sheet.pool.formulas; is_whole = true }

@@ -33,9 +33,6 @@ same_encoded a b =
     one_answer _ _ (bytes_eq-Decides (encode_utf8_all a) (encode_utf8_all b))
     ((λ e. ap encode_utf8_all ((bytes_eq-Decides a b).0 e)), (λ e. (bytes_eq-Decides a b).1 (encodes_same a b e)))
 
-pub bytes_eq-same : (a : List ℕ) → bytes_eq a a ≡ true
-bytes_eq-same a = (bytes_eq-Decides a a).1 refl
-
 pub bytes_eq-flip : (a b : List ℕ) → bytes_eq a b ≡ bytes_eq b a
 bytes_eq-flip a b = one_answer _ _ (bytes_eq-Decides a b) ((λ e. sym ((bytes_eq-Decides b a).0 e)), (λ e. (bytes_eq-Decides b a).1 (sym e)))
 

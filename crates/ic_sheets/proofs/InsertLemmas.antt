@@ -26,13 +26,6 @@ module _ {X : Type 0} where
   got_before (y ∷ xs) (suc index) zero x lt le = refl
   got_before (y ∷ xs) (suc index) (suc k) x lt le = got_before xs index k x (omega (arith, lt)) (omega (arith, le))
 
-  -- those from there on stand one further
-  pub got_after : (xs : List X) (index k : ℕ) (x : X) → index ≤ k → index ≤ length xs → slice_get (insert xs index x) (suc k) ≡ slice_get xs k
-  got_after xs zero k x lt le = refl
-  got_after [] (suc index) k x lt le = absurd (omega (arith, le))
-  got_after (y ∷ xs) (suc index) zero x lt le = absurd (omega (arith, lt))
-  got_after (y ∷ xs) (suc index) (suc k) x lt le = got_after xs index k x (omega (arith, lt)) (omega (arith, le))
-
   -- without it the others are left
   pub inserted_removed : (xs : List X) (index : ℕ) (x : X) → index ≤ length xs → remove (insert xs index x) index ≡ xs
   inserted_removed xs zero x le = refl

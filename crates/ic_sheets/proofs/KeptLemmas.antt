@@ -165,7 +165,3 @@ kept_same last sheets list kept same_names same_ids = record {
 -- what finds them by their names goes by the names and the ids alone
 pub finds_same : (index : Index) (sheets list : List Sheet) → FindsSheets index sheets → names list ≡ names sheets → ids list ≡ ids sheets → FindsSheets index list
 finds_same index sheets list finds same_names same_ids key = finds key ∙ sym (id_of-same list sheets same_names same_ids key)
-
--- another look-up that finds the same
-pub finds_indexed : (before after : Index) (sheets list : List Sheet) → FindsSheets before sheets → ((q : List ℕ) → get_by_text after q ≡ get_by_text before q) → list ≡ sheets → FindsSheets after list
-finds_indexed before after sheets list finds found same = subst (FindsSheets after) (sym same) (λ key. found (encode_utf8_all key) ∙ finds key)

@@ -1,6 +1,6 @@
 -- Sheets that are made of plain records, one after another.
 use Rattle.std.proofs.Common.{◌≡◌, ◌∙◌, ◌<◌, ◌≤◌, ◌+◌, ℕ, suc, List, [], ◌∷◌, ◌++◌, Bool, true, false, cond, ◌||◌, Option, Some, None, option_map, is_some, map, max, length, take, get_or, nat_eq, refl, sym, ap, ap₂, arith}
-use Rattle.std.proofs.lemmas.List.{map-append, map_more, take_all}
+use Rattle.std.proofs.lemmas.List.{map-append, map_more}
 use Rattle.std.specs.Cmp.{nat_eq_equiv}
 use Rattle.std.specs.List.{list_any}
 use Rattle.ic_laws.proofs.CoreLemmas.{above_greatest, agrees_equiv}
@@ -8,7 +8,7 @@ use Rattle.ic_laws.specs.CoreBook.{IsId}
 use Rattle.ic_laws.specs.Greatest.{greatest}
 use Rattle.ic_laws.specs.Name.{agrees}
 use Rattle.ic_cells.specs.declared.sheet.Worksheet.{Worksheet}
-use Rattle.ic_sheets.proofs.ApartLemmas.{AreFine, fine_differ, fine_each, fine_next, fine_start, first_apart, not_differ, not_each}
+use Rattle.ic_sheets.proofs.ApartLemmas.{AreFine, fine_next, fine_start, first_apart, not_differ, not_each}
 use Rattle.ic_sheets.proofs.KeptLemmas.{greatest_pushed}
 use Rattle.ic_sheets.proofs.SearchLemmas.{ids, names}
 use Rattle.ic_sheets.specs.Records.{HasApartNames, HasIds, started}
@@ -82,15 +82,6 @@ module _ (ws : List Worksheet) where
   pub record StartedTo (i : ℕ) (sheets : List Sheet) : Type 0 where
     pub made : sheets ≡ map started (take i ws)
     pub fine : AreFine nat_eq_equiv HasId id_in ws i
-
-  pub started_start : (sheets : List Sheet) → sheets ≡ [] → StartedTo 0 sheets
-  started_start sheets none = record { made = none; fine = fine_start nat_eq_equiv HasId id_in ws }
-
-  pub started_end : (i : ℕ) (sheets : List Sheet) → StartedTo i sheets → length ws ≤ i → HasIds ws × (sheets ≡ map started ws)
-  started_end i sheets done end = (
-    record { each = fine_each nat_eq_equiv HasId id_in ws i done.fine end; differ = fine_differ nat_eq_equiv HasId id_in ws i done.fine end },
-    done.made ∙ ap (map started) (take_all i ws end),
-  )
 
   pub started_names : (i : ℕ) (sheets : List Sheet) → StartedTo i sheets → names sheets ≡ map name_in (take i ws)
   started_names i sheets done = ap names done.made ∙ names_started (take i ws)

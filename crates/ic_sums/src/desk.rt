@@ -1,5 +1,5 @@
 //! What the program does with its words.
-ghost use Rattle.std.specs.Prelude.{◌≡◌, ◌≢◌, ◌⊎◌, ◌↔◌, ◌+◌, ◌++◌, ◌<◌, ◌≤◌, ◌^◌, [], Some, true, chars, flat_map, length, string_bytes, IfOk, IsNone, IsSome, IsSomeAnd, OnOk};
+ghost use Rattle.std.specs.Prelude.{◌≡◌, ◌⊎◌, ◌↔◌, ◌+◌, ◌++◌, ◌<◌, ◌≤◌, ◌^◌, [], Some, true, chars, flat_map, length, string_bytes, IfOk, IsNone, IsSome, IsSomeAnd, OnOk};
 ghost use Rattle.ic_lines.specs.Bytes.{HasFault, IfTold};
 ghost use Rattle.ic_machine.specs.Fields.{fields_of_place, string_only};
 ghost use Rattle.ic_book.specs.Whole.{whole_of};

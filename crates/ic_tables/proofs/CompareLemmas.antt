@@ -1,5 +1,5 @@
 -- Comparing foldings character by character, and fronts that fold to a text.
-use Rattle.std.proofs.Common.{◌≡◌, ℕ, ◌+◌, ◌<◌, suc, Bool, true, false, List, [], ◌∷◌, ◌++◌, length, get_or, take, drop, chars, IsUtf8, IsCharBoundary, ◌==◌, ◌&&◌, nat_lt, not, bytes_eq, Option, Some, None, append_assoc, refl, sym, ap, ap₂, subst, ◌∙◌, arith, cond}
+use Rattle.std.proofs.Common.{◌≡◌, ℕ, ◌+◌, ◌<◌, Bool, true, false, List, [], ◌∷◌, ◌++◌, length, get_or, take, drop, chars, IsUtf8, IsCharBoundary, ◌==◌, ◌&&◌, nat_lt, not, bytes_eq, append_assoc, refl, sym, ap, ap₂, subst, ◌∙◌, arith}
 use Rattle.std.proofs.lemmas.Bool.{agree_below, agree_below_at, and_parts, both_ways, false_from_ne_true, ltb-true}
 use Rattle.std.proofs.lemmas.Bool.Decides.{nat_tests}
 use Rattle.std.proofs.lemmas.List.{take_more, drop_more, take-append-drop, append_cancel_left}
@@ -11,9 +11,9 @@ use Rattle.std.specs.Char.{to_ascii_lowercase}
 use Rattle.std.specs.Cmp.Lexicographic.{slice_cmp}
 use Rattle.std.specs.Ordering.{nat_cmp, ordering_then, is_eq}
 use Rattle.std.specs.declared.cmp.Ordering.{Ordering}
-use Rattle.std.specs.declared.cmp.Ordering.TheVariants.{Less, Equal, Greater}
+use Rattle.std.specs.declared.cmp.Ordering.TheVariants.{Less, Equal}
 use Rattle.ucd_case.proofs.Computing.{ucd_case}
-use Rattle.ucd_case.specs.CaseFolding.{full_fold, or_itself}
+use Rattle.ucd_case.specs.CaseFolding.{full_fold}
 use Rattle.caseless.specs.Caseless.{default_case_fold}
 use Rattle.ic_laws.specs.Name.{fold}
 use Rattle.ic_tables.specs.Order.{ComparesBy, FoldsFront, FoldsNoFront}
@@ -45,16 +45,6 @@ same_cmp c = tied_itself nat_cmp_total c
 pub same_front : (a x y : List ℕ) → slice_cmp nat_cmp (a ++ x) (a ++ y) ≡ slice_cmp nat_cmp x y
 same_front [] x y = refl
 same_front (c ∷ cs) x y = ap (λ o. ordering_then o (slice_cmp nat_cmp (cs ++ x) (cs ++ y))) (same_cmp c) ∙ same_front cs x y
-
--- one character
-pub char_less : (c d : ℕ) (ds text : List ℕ) → text ≡ d ∷ ds → c < d → ComparesBy (c ∷ []) text Less
-char_less c d ds text e h = record { compared = λ rest. rw e (grind (arith, nat_tests)); apart = refl }
-
-pub char_greater : (c d : ℕ) (ds text : List ℕ) → text ≡ d ∷ ds → d < c → ComparesBy (c ∷ []) text Greater
-char_greater c d ds text e h = record { compared = λ rest. rw e (grind (arith, nat_tests)); apart = refl }
-
-pub char_end : (c : ℕ) (text : List ℕ) → text ≡ [] → ComparesBy (c ∷ []) text Greater
-char_end c text e = record { compared = λ rest. rw e refl; apart = refl }
 
 -- after some characters that are alike
 pub compares_after : (front text rest : List ℕ) (i c : ℕ) (order : Ordering) → i < length front → text ≡ take i front ++ rest → c ≡ get_or front i c → ComparesBy (c ∷ []) rest order → ComparesBy front text order
@@ -89,11 +79,6 @@ pub ruleset compare_steps = (passed, ended, ended_before)
 -- fronts that fold to a text
 pub front_here : (whole text : List ℕ) → whole ≡ [] → FoldsFront whole text text
 front_here whole text e = record { front = []; split = refl; folds = fold-nil ∙ sym e }
-
--- a folding that is not empty
-starts : (c : ℕ) (folding rest : List ℕ) → (x : ℕ) × (xs : List ℕ) × (or_itself c folding ++ rest ≡ x ∷ xs)
-starts c [] rest = (c, rest, refl)
-starts c (y ∷ ys) rest = (y, ys ++ rest, refl)
 
 differ_from : (a b : List ℕ) → (a ≡ b → ⊥) → bytes_eq a b ≡ false
 differ_from a b h = false_from_ne_true (bytes_eq a b) (λ e. h ((bytes_eq-Decides a b).0 e))

@@ -2,7 +2,7 @@
 use Rattle.std.proofs.Common.{inl, inr, ◌≡◌, ℕ, ◌+◌, ◌<◌, ◌≤◌, suc, zero, Bool, true, false, not, List, [], ◌∷◌, ◌++◌, length, get_or, take, drop, map, bytes_eq, Bor, chars, MatchOption, Option, Some, None, option_map, refl, sym, ap, ap₂, subst, ◌∙◌, arith, add-one, cond}
 use Rattle.std.proofs.lemmas.Bool.{cases_eq, and_parts, and_from, both_ways, cond-true, cond-false, false_from_ne_true, true_from_ne_false, not-true, not_from_false}
 use Rattle.std.proofs.lemmas.Cmp.{nat_list_cmp_total, upto}
-use Rattle.std.proofs.lemmas.List.{get_or_append_left, get_or_default, get_or_push, length_push, drop_more, drop_all, take_more, take_all, take-append-drop}
+use Rattle.std.proofs.lemmas.List.{get_or_append_left, get_or_default, get_or_push, length_push, drop_more, take_more, take-append-drop}
 use Rattle.std.proofs.lemmas.Map.Text.{is_eq-slice_cmp}
 use Rattle.std.proofs.lemmas.Slice.Eq.{bytes_eq-Decides}
 use Rattle.std.specs.Cmp.Lexicographic.{slice_cmp}
@@ -189,10 +189,6 @@ put_first folded key n p es slice made same is e s low high =
     (subst (λ l. IsPutFirst folded n es l) (sym is)
     (record { sorted = put_sorted new es p s lows highs; numbers = λ other. put_numbers new es p other lows }))
 
--- the words from one number on
-pub order_none : (n : ℕ) (words : List (List ℕ)) → length words ≤ n → IsOrderFrom n (drop n words) []
-order_none n words h = subst (λ ws. IsOrderFrom n ws []) (sym (drop_all n words h)) (record { sorted = refl; numbers = λ text. refl })
-
 pub order_more : (n m : ℕ) (words : List (List ℕ)) (w : List ℕ) (old es : List WordEntry) → m ≡ n + 1 → n < length words → w ≡ get_or words n w → IsOrderFrom m (drop m words) old → IsPutFirst (fold w) n old es → IsOrderFrom n (drop n words) es
 order_more n m words w old es next h at before put =
     let later : IsOrderFrom (n + 1) (drop (n + 1) words) old = subst (λ k. IsOrderFrom k (drop k words) old) next before in
@@ -271,9 +267,6 @@ front_found text rest es i e h at before f =
           ∙ cond-true (bytes_eq e.folded (fold f.front)) (Some e.number) _ ((bytes_eq-Decides e.folded (fold f.front)).1 (sym f.folds));
     }
 
-pub front_nowhere : (text : List ℕ) (es : List WordEntry) (i : ℕ) → length es ≤ i → BeginsWithNone (λ front. number_at (take i es) (fold front)) text → BeginsWithNone (λ front. number_at es (fold front)) text
-front_nowhere text es i h before front rest split = ap (λ l. number_at l (fold front)) (sym (take_all i es h)) ∙ before front rest split
-
 -- what the entries of some words find is what the words find
 pub error_found : (words : List (List ℕ)) (es : List WordEntry) (text rest : List ℕ) (n : ℕ) → IsOrderOf words es → BeginsWithFound (λ front. number_at es (fold front)) text rest n → BeginsWithFound (first_agreeing words) text rest n
 error_found words es text rest n o f = record { front = f.front; split = f.split; found = sym (o.numbers f.front) ∙ f.found }
@@ -284,10 +277,6 @@ error_nowhere words es text o none front rest split = sym (o.numbers front) ∙ 
 pub error_any : (words : List (List ℕ)) (es slice : List WordEntry) (text : List ℕ) (r : Option (ℕ × Bor (List ℕ))) → slice ≡ es → IsOrderOf words es → MatchOption r (BeginsWithNone (λ front. number_at slice (fold front)) text) (λ p. BeginsWithFound (λ front. number_at slice (fold front)) text (chars p.1.now) p.0) → MatchOption r (BeginsWithNone (first_agreeing words) text) (λ p. BeginsWithFound (first_agreeing words) text (chars p.1.now) p.0)
 error_any words es slice text None same o h = error_nowhere words slice text (subst (IsOrderOf words) (sym same) o) h
 error_any words es slice text (Some p) same o h = error_found words slice text _ _ (subst (IsOrderOf words) (sym same) o) h
-
--- orders of languages
-pub ordered_none : (ls : List Language) → AreOrderedTo 0 ls []
-ordered_none ls = record { many = refl; each = λ k l o h _ _. absurd (omega arith) }
 
 pub ordered_more : (n : ℕ) (ls : List Language) (os made : List WordOrder) (l : Language) (o : WordOrder) → n < length ls → l ≡ get_or ls n l → made ≡ os ++ o ∷ [] → OrdersWords l o → AreOrderedTo n ls os → AreOrderedTo (n + 1) ls made
 ordered_more n ls os made l o h at is this so_far =

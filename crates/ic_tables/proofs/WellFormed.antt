@@ -1,5 +1,5 @@
 -- What tables that meet every condition have: each condition as a fact, for the crates above.
-use Rattle.std.proofs.Common.{◌≡◌, ℕ, suc, ◌+◌, List, [], ◌∷◌, ◌++◌, Bool, true, false, not, ◌&&◌, ◌||◌, ◌==◌, nat_lt, Option, Some, None, Result, Ok, Err, MatchResult, IfOk, Bor, bytes_eq, cond, codes, find, is_some, length, map, option_map, refl, suc-le-suc, zero-lt-suc, sym, ap, subst, ◌∙◌, arith}
+use Rattle.std.proofs.Common.{◌≡◌, ℕ, suc, ◌+◌, List, [], ◌∷◌, Bool, true, false, not, ◌&&◌, ◌||◌, ◌==◌, nat_lt, Option, Some, None, Result, Ok, Err, MatchResult, IfOk, Bor, bytes_eq, cond, codes, find, is_some, length, map, option_map, refl, suc-le-suc, zero-lt-suc, sym, ap, subst, ◌∙◌, arith}
 use Rattle.std.proofs.lemmas.Bool.{and_from, and_parts, eqb-true, not-true, or_parts}
 use Rattle.std.proofs.Math.ListN.{length-map}
 use Rattle.std.proofs.lemmas.List.{get_or-map}
@@ -7,15 +7,14 @@ use Rattle.std.proofs.lemmas.List.Sums.{AllPass-from_list_all}
 use Rattle.std.proofs.lemmas.Slice.Eq.{bytes_eq-Decides}
 use Rattle.std.specs.Option.{IfSome}
 use Rattle.std.specs.List.{AllByRecursion, AllPass, IsAmong, IsDistinct, list_all, list_any, slice_get}
-use Rattle.ic_laws.specs.Name.{agrees, fold, is_variable_form}
-use Rattle.ic_laws.specs.Dialect.{has_error_shape, has_function_shape}
+use Rattle.ic_laws.specs.Name.{agrees, fold}
 use Rattle.ic_tables.specs.Formats.{has_dates, has_group, has_separators, has_symbol}
 use Rattle.ic_tables.proofs.Lookups.{is_some-option_map}
 use Rattle.ic_tables.specs.declared.language.Language.{Language}
 use Rattle.ic_tables.specs.declared.locale.Locale.{Locale}
 use Rattle.ic_tables.specs.declared.locale.NamedLocale.{NamedLocale}
-use Rattle.ic_tables.specs.Tables.{TableSet, HasGoodFormats, HasGoodWords, IsWellFormed, are_different, codes_of, conditions, english, error_words_in, first_false, has_english_words, has_ids, has_numbers, has_text, has_zones, have_boolean_words, have_dates, have_error_words, have_function_words, have_groups, have_separators, have_symbols, ids_of, language_of, locale_of, tell_booleans, tell_errors}
-use Rattle.ic_tables.specs.Words.{boolean_words, differ, error_words, has_boolean_words, has_error_words, has_function_words, has_stored_booleans, has_stored_functions, has_stored_words, is_prefix_free, is_proper_prefix, is_text, named_numbers, no_two_agree, numbers_functions, share_numbers, tells_booleans, tells_errors}
+use Rattle.ic_tables.specs.Tables.{TableSet, HasGoodFormats, HasGoodWords, IsWellFormed, codes_of, conditions, english, error_words_in, first_false, has_english_words, has_ids, has_numbers, has_text, has_zones, have_boolean_words, have_dates, have_error_words, have_function_words, have_groups, have_separators, have_symbols, ids_of, language_of, locale_of, tell_booleans, tell_errors}
+use Rattle.ic_tables.specs.Words.{boolean_words, differ, error_words, has_boolean_words, has_error_words, has_function_words, has_stored_booleans, has_stored_functions, has_stored_words, is_text, named_numbers, no_two_agree, numbers_functions, share_numbers, tells_booleans, tells_errors}
 
 -- each condition holds
 pub record Conditions (t : TableSet) : Type 0 where
@@ -119,9 +118,6 @@ has_english t h = and_first _ _ _ _ _ _ (all_hold t h).ids
 
 -- ---- 2
 
-pub zones_differ : (t : TableSet) → IsWellFormed t → are_different t.zones ≡ true
-zones_differ t h = (all_hold t h).zones
-
 -- ---- 3
 
 -- a language numbers so many functions
@@ -140,11 +136,6 @@ numbers_parts count l h =
       below = AllPass-from_list_all (λ n. nat_lt n count) (named_numbers l) inner.1;
       apart = outer.1;
     }
-
-pub functions_numbered : (t : TableSet) → IsWellFormed t → (l : Language) → IsAmong t.languages l → Numbers (length t.kinds) l
-functions_numbered t h l among =
-    let both = and_parts (list_all (numbers_functions (length t.kinds)) t.languages) (share_numbers t.languages) (all_hold t h).numbers in
-    numbers_parts (length t.kinds) l (passes (numbers_functions (length t.kinds)) t.languages l both.0 among)
 
 shared_with_first : (first : Language) (others : List Language) → share_numbers (first ∷ others) ≡ true → (l : Language) → IsAmong (first ∷ others) l → named_numbers l ≡ named_numbers first
 unfolding share_numbers
@@ -202,16 +193,7 @@ english_stores t h l among e =
 
 -- ---- 5
 
-pub boolean_forms : (t : TableSet) → IsWellFormed t → (l : Language) → IsAmong t.languages l → AllPass is_variable_form (boolean_words l)
-unfolding has_boolean_words
-boolean_forms t h l among =
-    AllPass-from_list_all is_variable_form (boolean_words l) (passes has_boolean_words t.languages l (all_hold t h).boolean_words among)
-
 -- ---- 6
-
-pub booleans_differ : (t : TableSet) → IsWellFormed t → (l : Language) → IsAmong t.languages l → agrees l.booleans.true_word l.booleans.false_word ≡ false
-unfolding tells_booleans
-booleans_differ t h l among = not-true _ (passes tells_booleans t.languages l (all_hold t h).booleans_told among)
 
 -- ---- 7 and 8
 
@@ -236,29 +218,10 @@ looking_words looks words h =
     let parts = and_parts (list_all looks words) (no_two_agree words) h in
     record { forms = AllPass-from_list_all looks words parts.0; apart = distinct words parts.1 }
 
-pub good_functions : (t : TableSet) → IsWellFormed t → (l : Language) → IsAmong t.languages l → GoodWords has_function_shape l.functions.words
-unfolding has_function_words
-good_functions t h l among = looking_words has_function_shape l.functions.words (passes has_function_words t.languages l (all_hold t h).function_words among)
-
-pub good_errors : (t : TableSet) → IsWellFormed t → (l : Language) → IsAmong t.languages l → GoodWords has_error_shape (error_words l)
-unfolding has_error_words
-good_errors t h l among = looking_words has_error_shape (error_words l) (passes has_error_words t.languages l (all_hold t h).error_words among)
-
 -- ---- 9
 
 folded_among : (words : List (List ℕ)) (a : List ℕ) → IsAmong words a → IsAmong (map fold words) (fold a)
 folded_among words a among = (among.0, (rw length-map among.1.0, ap fold among.1.1 ∙ sym (get_or-map fold words among.0 a (fold a) among.1.0)))
-
--- of the words of a language's errors and of English ones no folded one begins another
-pub errors_free : (t : TableSet) → IsWellFormed t → (l : Language) → IsAmong t.languages l
-    → let words = error_words_in (english t.languages) ++ error_words l in
-    (a b : List ℕ) → IsAmong words a → IsAmong words b → is_proper_prefix (fold a) (fold b) ≡ false
-unfolding tells_errors
-errors_free t h l among a b is_a is_b =
-    let folded = map fold (error_words_in (english t.languages) ++ error_words l) in
-    let free : is_prefix_free folded ≡ true = passes (tells_errors (error_words_in (english t.languages))) t.languages l (all_hold t h).errors_told among in
-    let of_a = passes (λ x. list_all (λ y. not (is_proper_prefix x y)) folded) folded (fold a) free (folded_among _ a is_a) in
-    not-true _ (passes (λ y. not (is_proper_prefix (fold a) y)) folded (fold b) of_a (folded_among _ b is_b))
 
 -- ---- of one language, all together
 

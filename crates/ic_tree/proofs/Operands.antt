@@ -114,9 +114,6 @@ module _ (d : DialectMeaning) (most : ℕ) (below : Reader) (b : ℕ) where
       at zero less = absurd (omega arith)
       at (suc n) less = let pred : suc n - 1 ≡ n = omega arith in ap inside pred
 
-  shut : {A : Type 0} (inside : ℕ → Read A) → b ≡ 0 → None ≡ opened b inside
-  shut inside none = rw none refl
-
   pub function_shut : (number : ℕ) (ts : List Token) (token : code.Token) → token ≡ of.FunHead number → b ≡ 0 → None ≡ primary d most below b (token_of token) ts
   unfolding primary
   function_shut number ts token is none = rw (is, none) refl

@@ -1,5 +1,5 @@
 -- The shown form in code: errors by local words and then by English ones, its separators, and the text of a reference.
-use Rattle.std.proofs.Common.{◌≡◌, ℕ, ℤ, ◌<◌, ◌≤◌, List, Bool, true, false, ◌&&◌, bytes_eq, codes, Option, Some, None, option_map, MatchOption, if◌then◌else◌, refl, sym, ap, ap₂, ◌∙◌, inl, inr, arith}
+use Rattle.std.proofs.Common.{◌≡◌, ℕ, ℤ, ◌<◌, ◌≤◌, List, Bool, true, ◌&&◌, bytes_eq, codes, Option, Some, None, option_map, MatchOption, refl, sym, ap, ap₂, ◌∙◌, inl, inr, arith}
 use Rattle.std.proofs.lemmas.Bool.{and_parts, or_cases}
 use Rattle.std.proofs.lemmas.Slice.Eq.{bytes_eq-Decides}
 use Rattle.ic_laws.specs.declared.dialect.WordKind.TheVariants as kinds
@@ -64,19 +64,3 @@ meaning_told o given l english locale is_comma row column at_row at_column same_
     ∙ ap₂ (λ a b. Some (shown_meaning l english (list_of is_comma) (decimal_of is_comma) a b)) (sym same_row) (sym same_column)
 
 -- ---- the text of a reference, by what was spelled
-
-pub named_text : (inside named : Bool) (text : List ℕ) (o : Option (List ℕ)) → true ≡ named → o ≡ (if inside then Some text else None) → o ≡ (if inside && named then Some text else None)
-named_text true named text o h e = rw (← h) e
-named_text false named text o h e = e
-
-pub unnamed_text : (inside named : Bool) (text : List ℕ) → false ≡ named → None ≡ (if inside && named then Some text else None)
-unnamed_text true named text h = rw (← h) refl
-unnamed_text false named text h = refl
-
-pub is_spelled : (can : Bool) (written word text : List ℕ) → Some text ≡ (if can then Some written else None) → text ≡ (if can then written else word)
-is_spelled true written word text e = cc
-is_spelled false written word text e = absurd (cc)
-
-pub is_error_word : (can : Bool) (written word : List ℕ) → None ≡ (if can then Some written else None) → word ≡ (if can then written else word)
-is_error_word true written word e = absurd (cc)
-is_error_word false written word e = refl

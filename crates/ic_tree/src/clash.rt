@@ -1,4 +1,4 @@
-ghost use Rattle.std.specs.Prelude.{◌≡◌, ◌||◌, chars, map};
+ghost use Rattle.std.specs.Prelude.{◌≡◌, ◌||◌, map};
 ghost use Rattle.std.specs.List.{list_any};
 ghost use Rattle.ic_laws.specs.Clash.{clashes_with, mentioned_name, one_clashes};
 ghost use Rattle.ic_tree.specs.LanguageWords.{is_boolean_word, is_function_word};

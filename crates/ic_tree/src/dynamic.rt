@@ -1,6 +1,5 @@
 ghost use Rattle.std.specs.Prelude.{◌≡◌, map};
 ghost use Rattle.ic_tree.specs.Dynamic.{dynamic_with, is_at, is_kind_dynamic, is_range, one_dynamic};
-ghost use Rattle.std.specs.List.{slice_get};
 
 use ic_laws::{Bound, LetPair, NameMention, Place, PrefixSign, SheetMention, Tree};
 use ic_tables::{FunctionKind, Tables};

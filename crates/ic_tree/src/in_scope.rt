@@ -1,4 +1,4 @@
-ghost use Rattle.std.specs.Prelude.{◌≡◌, ◌++◌, ◌∷◌, ◌-◌, ℕ, List, [], IfOk, OnErr, OnOk, bytes_eq, chars, encode_utf8_all, length, string_bytes, take};
+ghost use Rattle.std.specs.Prelude.{◌≡◌, ◌++◌, ◌∷◌, ◌-◌, ℕ, List, [], IfOk, OnErr, OnOk, bytes_eq, chars, length, string_bytes, take};
 ghost use Rattle.std.specs.BTreeMap.{get_by_text};
 ghost use Rattle.ic_laws.specs.Binding.{is_bound_by};
 ghost use Rattle.ic_tree.specs.InScope.{but_last, key_of, or_last};

@@ -1,4 +1,4 @@
-ghost use Rattle.std.specs.Prelude.{◌≡◌, ◌∷◌, ◌<◌, ◌-◌, [], List, IfOk, IfSome, Some, None, option_map, if◌then◌else◌};
+ghost use Rattle.std.specs.Prelude.{◌≡◌, ◌∷◌, ◌<◌, ◌-◌, [], IfOk, IfSome, Some, None, option_map};
 ghost use Rattle.ic_laws.specs.Parse.{argument, arguments, binary, bracketed, followed, function_call, lambda_call, let_call, name_call, operand, parsed, past_close, past_separator, postfix, primary, reader, turns};
 ghost use Rattle.ic_tree.specs.Listing.{all_listed};
 ghost use Rattle.ic_tree.specs.Tokens.{token_of};

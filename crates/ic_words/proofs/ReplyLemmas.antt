@@ -1,5 +1,5 @@
 -- The bytes and the characters of replies.
-use Rattle.std.proofs.Common.{◌≡◌, ℕ, ℤ, pos, negsuc, zero, suc, ◌<◌, ◌+◌, ◌/◌, ◌%◌, ◌==◌, nat_lt, List, [], ◌∷◌, ◌++◌, Bool, true, false, ltb, not, ◌&&◌, Option, Some, None, String, Result, Ok, Err, OnOk, IsUtf8, IsAscii, chars, codes, encode_utf8_all, flat_map, slice_get, string_bytes, unwrap_or, append_assoc, inl, inr, refl, ap, sym, subst, ◌∙◌, arith}
+use Rattle.std.proofs.Common.{◌≡◌, ℕ, ℤ, pos, negsuc, zero, suc, ◌<◌, ◌+◌, ◌/◌, ◌%◌, ◌==◌, nat_lt, List, [], ◌∷◌, ◌++◌, Bool, true, false, ltb, not, ◌&&◌, Option, Some, None, Result, Ok, Err, OnOk, IsUtf8, IsAscii, chars, codes, encode_utf8_all, flat_map, slice_get, unwrap_or, append_assoc, inl, inr, refl, ap, sym, subst, ◌∙◌, arith}
 use lib.Utf8.{encode, scalar, scalars}
 use Rattle.std.specs.Char.{is_ascii_digit}
 use Rattle.std.specs.Fmt.{decimal, digit_glyph, digits, digits_onto, signed_decimal}
@@ -8,9 +8,8 @@ use Rattle.std.specs.Str.{all_ascii_digits}
 use Rattle.std.proofs.lemmas.Bool.{and_parts, cases_Bool, ltb-true}
 use Rattle.std.proofs.lemmas.Bool.Decides.{eqb_tells, nat_tests}
 use Rattle.std.proofs.lemmas.Grind.{flat_map-append}
-use Rattle.std.proofs.lemmas.Str.{IsUtf8-from_ascii, IsUtf8-string_bytes, chars-IsAscii, chars-encodes, encodes-IsAscii, encodes-append, encodes-chars, scalars-chars}
+use Rattle.std.proofs.lemmas.Str.{IsUtf8-from_ascii, chars-IsAscii, chars-encodes, encodes-IsAscii, encodes-append, encodes-chars, scalars-chars}
 use Rattle.std.proofs.lemmas.Str.Ascii.{IsAscii-cons, IsAscii-nil}
-use Rattle.std.specs.declared.alloc.Global.{Global}
 use Rattle.ic_laws.specs.Character.{tab}
 use Rattle.ic_laws.specs.Lines.{escape_of, escaped}
 use Rattle.ic_laws.specs.Refusal as core
@@ -195,6 +194,3 @@ refusal_reply old new name refusal e is =
     ∙ ap (λ text. old ++ (text ++ 10 ∷ [])) (sym (encodes-IsAscii (reply_text (Err refusal)) (tested_ascii (reply_text (Err refusal)) (name_ascii (refusal_name refusal) (refusal_named refusal)))))
 
 -- The characters of strings ----
-
-pub string_characters : (text : String Global) → scalars (chars (string_bytes text)) ≡ true
-string_characters text = scalars-chars (string_bytes text) (IsUtf8-string_bytes text)

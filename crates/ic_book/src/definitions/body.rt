@@ -3,11 +3,11 @@ ghost use Rattle.std.specs.Prelude.{◌≡◌, ◌==◌, ℕ, List, Some, true, 
 ghost use Rattle.ic_laws.specs.Position.{is_place_within};
 ghost use Rattle.ic_laws.specs.declared.reference.RefToken.{RefToken};
 ghost use Rattle.ic_laws.specs.CoreStep.{new_definition};
-ghost use Rattle.ic_laws.specs.FormulaReading.{body_of, if_lambda, lambda_tree, reference_tree, shown_at, without_equals};
+ghost use Rattle.ic_laws.specs.FormulaReading.{body_of, if_lambda, lambda_tree, reference_tree, without_equals};
 ghost use Rattle.ic_laws.specs.Notations.{english};
 ghost use Rattle.ic_laws.specs.Scan.{first_is};
 ghost use Rattle.ic_laws.specs.Character.{equals};
-ghost use Rattle.ic_book.specs.Book.{core_of, notations_in, scene_in};
+ghost use Rattle.ic_book.specs.Book.{core_of, notations_in};
 ghost use Rattle.ic_book.specs.Definitions.{body_of_typed};
 
 use crate::Model;

@@ -1,5 +1,5 @@
 //! What an update of a definition makes of all formulas. It is prepared before anything changes.
-ghost use Rattle.std.specs.Prelude.{◌≡◌, ◌<◌, IfOk, OnErr, OnOk, chars, false, length, map, not, remove};
+ghost use Rattle.std.specs.Prelude.{◌≡◌, ◌<◌, IfOk, OnErr, OnOk, chars, false, length, map, remove};
 ghost use Rattle.std.specs.List.{list_any};
 ghost use Rattle.ic_laws.specs.Binding.{bound};
 ghost use Rattle.ic_laws.specs.CoreStep.{updated_at};

@@ -1,5 +1,5 @@
 //! Definitions come and go, and what their bodies mention changes.
-ghost use Rattle.std.specs.Prelude.{◌≡◌, ◌<◌, ◌++◌, ℕ, List, [], ◌∷◌, IfOk, None, OnErr, OnOk, Some, cond, false, length, map, option_map, option_to_list, remove, take};
+ghost use Rattle.std.specs.Prelude.{◌≡◌, ◌<◌, ◌++◌, ℕ, [], ◌∷◌, IfOk, None, OnErr, OnOk, Some, cond, false, length, map, option_map, option_to_list, remove, take};
 ghost use Rattle.std.specs.List.{AllByRecursion, IsDistinct, list_any, slice_get};
 ghost use Rattle.ic_laws.specs.Binding.{name_or_dangling};
 ghost use Rattle.ic_laws.specs.BookTrees.{with_body_tree};

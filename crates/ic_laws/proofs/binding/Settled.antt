@@ -6,10 +6,10 @@ use Rattle.ic_laws.specs.declared.tree.SheetMention.{SheetMention}
 use Rattle.ic_laws.specs.declared.tree.Tree.TheOpen as one
 use Rattle.ic_laws.proofs.binding.Again.{FindAgain, bound_again, mapped_same}
 use Rattle.ic_laws.proofs.binding.Induction.{every_of_all}
-use Rattle.ic_laws.proofs.binding.SceneLemmas.{local_settles, sheet_settles, sheet_settles_by_ids, word_settles, word_fold}
+use Rattle.ic_laws.proofs.binding.SceneLemmas.{local_settles, sheet_settles, word_settles, word_fold}
 use Rattle.ic_laws.specs.Binding.{IsSettled, RespectsFolding, bound, bound_local, bound_sheet, spelled_sheet, spelled_word}
 use Rattle.ic_laws.specs.Mentions.{LocalMention, OfMentions}
-use Rattle.ic_laws.specs.Scene.{IdsDiffer, SheetsDiffer, definition_spelling, sheet_spelling}
+use Rattle.ic_laws.specs.Scene.{SheetsDiffer, definition_spelling, sheet_spelling}
 use Rattle.ic_laws.specs.declared.scene.Scene.{Scene}
 
 -- a fact of all mentions
@@ -60,7 +60,3 @@ settled_if english scene scope again t =
 -- a bound formula is settled where no two sheets' names agree
 pub bound_is_settled : (english : List ℕ → Option ℕ) (scene : Scene) (scope : Option ℕ) → SheetsDiffer scene → RespectsFolding english → (t : Spelled) → IsSettled english scene scope (bound english scene scope t)
 bound_is_settled english scene scope differ by_fold t = settled_if english scene scope (find_again english scene scope by_fold (sheet_settles scene differ)) t
-
--- or where no two ids are equal
-pub bound_is_settled_by_ids : (english : List ℕ → Option ℕ) (scene : Scene) (scope : Option ℕ) → IdsDiffer scene → RespectsFolding english → (t : Spelled) → IsSettled english scene scope (bound english scene scope t)
-bound_is_settled_by_ids english scene scope differ by_fold t = settled_if english scene scope (find_again english scene scope by_fold (sheet_settles_by_ids scene differ)) t

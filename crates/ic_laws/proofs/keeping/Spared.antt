@@ -5,10 +5,8 @@ use Rattle.std.specs.List.{AllByRecursion, list_any}
 use Rattle.std.proofs.lemmas.Bool.{or_parts}
 use Rattle.ic_laws.proofs.binding.Again.{BoundKind, bound_node}
 use Rattle.ic_laws.proofs.binding.Induction.{EveryPair, OfChildren, by_nodes, every_below, every_here, every_made, every_value}
-use Rattle.ic_laws.proofs.keeping.Kept.{Become, kept_becomes, spared_is_same}
-use Rattle.ic_laws.specs.Binding.{BoundPair, IsSettled, RespectsFolding, bound_pair_of}
-use Rattle.ic_laws.specs.Changes.{Change, IsSpared, NoneDanglesBy, changed_local, changed_sheet, changed_word, changes_local, changes_sheet, changes_tree, changes_word, dangles_by, sheet_named}
-use Rattle.ic_laws.specs.Keeping.{kept, same_keys}
+use Rattle.ic_laws.specs.Binding.{BoundPair, bound_pair_of}
+use Rattle.ic_laws.specs.Changes.{Change, IsSpared, NoneDanglesBy, changes_local, changes_sheet, changes_tree, changes_word, dangles_by, sheet_named}
 use Rattle.ic_laws.specs.Mentions.{AllMentions, OfMentions, some_mention, some_step}
 use Rattle.ic_laws.specs.Tree.{Bound}
 use Rattle.ic_laws.specs.declared.scene.Scene.{Scene}
@@ -133,12 +131,6 @@ module _ (is_sheet : SheetMention → Bool) (is_word : NameMention → Bool) (is
 -- so a formula that doesn't pass the test of a change has no mention that it can change
 pub untouched_is_spared : (change : Change) (scope : Option ℕ) (t : Bound) → changes_tree change scope t ≡ false → IsSpared change scope t
 untouched_is_spared change scope t e = none_passes (changes_sheet change) (changes_word change scope) (changes_local change) t e
-
--- Where no mention of a settled formula is one that a change can change, keeping the formula over it is that formula.
-pub kept_untouched : (english : List ℕ → Option ℕ) (before after : Scene) (scope : Option ℕ) (change : Change) → Become before after scope (changed_sheet change) (changed_word change scope) (changed_local change) → RespectsFolding english → (t : Bound)
-    → IsSettled english before scope t → changes_tree change scope t ≡ false → kept english before after same_keys scope t ≡ t
-kept_untouched english before after scope change become by_fold t settled e =
-    kept_becomes english before after scope (changed_sheet change) (changed_word change scope) (changed_local change) become by_fold t settled ∙ spared_is_same change scope t (untouched_is_spared change scope t e)
 
 -- where nothing dangles by an agreeing name, a sheet that gets the name changes nothing
 pub spared_naming : (scene : Scene) (id : ℕ) (name : List ℕ) (scope : Option ℕ) (t : Bound) → NoneDanglesBy name t → IsSpared (sheet_named scene id name) scope t

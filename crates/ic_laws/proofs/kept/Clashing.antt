@@ -1,6 +1,6 @@
 -- A kept tree that doesn't clash with a form has no word of it, so it is shown in the form so that it reads back.
 use mathlib.Core.Path.{fun_ext}
-use Rattle.std.proofs.Common.{◌≡◌, ℕ, ℤ, List, [], ◌∷◌, ◌++◌, map, Bool, true, false, ◌||◌, Option, Some, option_map, refl, sym, ap, ◌∙◌}
+use Rattle.std.proofs.Common.{◌≡◌, ℕ, ℤ, List, [], ◌∷◌, ◌++◌, map, Bool, true, false, ◌||◌, Option, Some, refl, sym, ap, ◌∙◌}
 use Rattle.std.specs.Prelude.{IsNone, codes, is_some}
 use Rattle.std.specs.Option.{option_or}
 use Rattle.std.specs.List.{AllByRecursion, list_all, list_any}
@@ -182,12 +182,6 @@ module _ (n : Notations) (notations : AreNotations n) (scene : Scene) (named : I
       (record { node = λ kind told. told_spelled kind told.free told.stays; pair = λ variable value free. free }) t
       (every_both (NoClash is_boolean is_function) (NoPairClash is_boolean is_function) (Stays (english_function n) scene scope) (λ pair. Unit {0}) IsBoundNode (NoPairClash is_boolean is_function)
       (λ kind free stays. record { free = free; stays = stays }) (λ pair free stays. free) t (all_no_clash is_boolean is_function t e) (settled_stays (english_function n) scene scope (english_by_fold n notations) t h.settled)))
-
-  -- So what is shown of it reads as what is written, and binds to it.
-  pub shown_text_binds : IsShownForm n d row column → is_cell row column ≡ true → (t : Bound) → IsKept n scene scope row column t → clashes_with is_boolean is_function t ≡ false
-      → option_map (bound (english_function n) scene scope) (read_as d (printed d (spelled scene t))) ≡ Some t
-  shown_text_binds form cell t h e =
-      ap (option_map (bound (english_function n) scene scope)) (shown_reads n notations scene named scope row column d form cell t h (no_form_words t h e)) ∙ ap (λ u. Some u) h.settled
 
 -- A form tells its own words.
 pub own_words : (n : Notations) (d : DialectMeaning) → IsLawful d → TellsWords n d (λ word. is_some (d.find kinds.Boolean word)) (λ word. is_some (d.find kinds.Function word))

@@ -116,12 +116,6 @@ pub bound_is_kept : (n : Notations) → AreNotations n → (scene : Scene) → S
     → IsKept n scene scope row column (bound (english_function n) scene scope t)
 bound_is_kept n notations scene differ d row column form text t read scope = bound_kept n notations scene scope (IsPlaceInside row column) differ t (read_can_be_kept n d row column form text t read)
 
--- So is one reference.
-pub reference_is_kept : (n : Notations) → AreNotations n → (scene : Scene) → SheetsDiffer scene → (d : DialectMeaning) (row column : ℤ) → IsShownForm n d row column → (text rest : List ℕ) (r : RefToken) → d.read_ref text ≡ Some (r, rest) → (scope : Option ℕ)
-    → IsKept n scene scope row column (bound (english_function n) scene scope (node (one.Reference r.sheet r.place)))
-reference_is_kept n notations scene differ d row column form text rest r read scope =
-    bound_kept n notations scene scope (IsPlaceInside row column) differ (node (one.Reference r.sheet r.place)) (reference_can_be_kept n d row column form text rest r read)
-
 -- a kept tree that is written by names can be kept ----
 
 -- an identifier is a word that can be called

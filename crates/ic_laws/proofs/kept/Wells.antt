@@ -2,7 +2,7 @@
 -- names.
 use Rattle.std.proofs.Common.{◌≡◌, ◌≢◌, ℕ, ◌+◌, ◌≤◌, List, [], ◌∷◌, map, Bool, true, false, not, ◌&&◌, codes, Option, None, Some, refl, sym, ap, subst, ◌∙◌, if◌then◌else◌}
 use Rattle.std.proofs.lemmas.Bool.{and_parts}
-use Rattle.ic_laws.specs.Binding.{Binders, BoundPair, all_bound, bound_call, bound_local, bound_sheet, bound_under, bound_word, is_bound_by, name_or_dangling, pair_binds, pairs_bound, sheet_or_dangling, spelled_kind, spelled_sheet, spelled_with, spelled_word}
+use Rattle.ic_laws.specs.Binding.{Binders, BoundPair, bound_call, bound_local, bound_sheet, bound_under, bound_word, is_bound_by, name_or_dangling, pair_binds, pairs_bound, sheet_or_dangling, spelled_kind, spelled_sheet, spelled_with, spelled_word}
 use Rattle.ic_laws.specs.Name.{agrees, is_identifier, is_variable}
 use Rattle.ic_laws.specs.Parse.{Pair, SpelledKind}
 use Rattle.ic_laws.specs.Scene.{found_local, found_name, found_sheet}
@@ -31,9 +31,6 @@ not_both false t f = cc
 module _ (english : List ℕ → Option ℕ) (scene : Scene) (scope : Option ℕ) (let_fn lambda_fn : ℕ) where
   abbrev kind_of : SpelledKind → Binders → BoundKind
   kind_of = once english scene scope
-
-  abbrev all_of : List Spelled → Binders → List Bound
-  all_of ts binders = all_bound (map (under english scene scope) ts) binders
 
   tight_bound : (least : ℕ) (t : Spelled) (binders : Binders) → IsOperand least t → IsOperand least (bound_under english scene scope t binders)
   tight_bound least t binders h = subst (λ n. least ≤ n) (sym (bound_top english scene scope t binders).level) h

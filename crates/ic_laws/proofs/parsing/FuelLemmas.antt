@@ -6,7 +6,7 @@ use Rattle.ic_laws.specs.Parse.{SpelledKind, node, Read, Reader, made, arguments
 use Rattle.ic_laws.specs.Token.{Token, Operator, Percent, Hash, Open}
 use Rattle.ic_laws.specs.Tree.{Spelled, sign_level, height, is_callable}
 use Rattle.ic_laws.specs.declared.tree.Tree.TheOpen as one
-use Rattle.ic_laws.proofs.parsing.Nodes.{height-node, height_positive}
+use Rattle.ic_laws.proofs.parsing.Nodes.{height-node}
 use Rattle.ic_laws.proofs.parsing.ReadLemmas.{turns_stop, turns_go}
 use Rattle.ic_laws.proofs.parsing.SoundKinds.{if_some, opened_some}
 
@@ -45,23 +45,6 @@ module _ (most : ℕ) (turn : Spelled → List Token → Option (Read Spelled)) 
         ∙ sym (turns_go turn g left ts read.0 read.1 taken.1)
   ]
 
-  -- a loop goes on from what a turn gives, and stops where there is none
-  pub loop_goes : (left : Spelled) (ts : List Token) (read : Spelled × List Token) → height left ≤ most → turn left ts ≡ Some (Some read) → turns turn most left ts ≡ turns turn most read.0 read.1
-  loop_goes left ts read low e = from most (omega (arith, low, height_positive left)) refl
-    where
-      from : (f : ℕ) → 0 < f → f ≡ most → turns turn f left ts ≡ turns turn most read.0 read.1
-      from zero some is = absurd (omega arith)
-      from (suc f) some is =
-          turns_go turn f left ts read.0 read.1 e
-          ∙ turns_fuel f most read.0 read.1 (rises.low left ts read e) (omega (arith, rises.higher left ts read e, height_positive left)) (omega (arith, height_positive read.0))
-
-  pub loop_stops : (left : Spelled) (ts : List Token) → height left ≤ most → turn left ts ≡ None → turns turn most left ts ≡ Some (left, ts)
-  loop_stops left ts low e = from most (omega (arith, low, height_positive left))
-    where
-      from : (f : ℕ) → 0 < f → turns turn f left ts ≡ Some (left, ts)
-      from zero some = absurd (omega arith)
-      from (suc f) some = turns_stop turn f left ts e
-
 postfix_up : (most : ℕ) (below : Reader) (b : ℕ) (left : Spelled) (ts : List Token) (read : Spelled × List Token) → postfix most below b left ts ≡ Some (Some read) → (height left < height read.0) × (height read.0 ≤ most)
 unfolding postfix applied
 postfix_up most below b left (Percent ∷ ts) read e =
@@ -75,12 +58,6 @@ postfix_up most below b left (Open ∷ ts) read e =
     let up = made_height most (one.Apply left found.0) found.1 read h in (omega (arith, up.0, height-node (one.Apply left found.0)), up.1))))
 postfix_up most below b left ts read e = cc
 
-pub postfix_rises : (most : ℕ) (below : Reader) (b : ℕ) → Rises most (postfix most below b)
-postfix_rises most below b = record {
-  higher = λ left ts read e. let up = postfix_up most below b left ts read e in up.0;
-  low = λ left ts read e. let up = postfix_up most below b left ts read e in up.1;
-}
-
 binary_up : (most : ℕ) (below : Reader) (b least : ℕ) (left : Spelled) (ts : List Token) (read : Spelled × List Token) → binary most below b least left ts ≡ Some (Some read) → (height left < height read.0) × (height read.0 ≤ most)
 unfolding binary joined_by
 binary_up most below b least left (Operator sign ∷ ts) read e =
@@ -88,9 +65,3 @@ binary_up most below b least left (Operator sign ∷ ts) read e =
     option_and_then_some _ (below b (sign_level sign + 1) ts) read (same_Some _ (Some read) h) (λ right got more.
     let up = made_height most (one.Binary sign left right.0) right.1 read more in (omega (arith, up.0, height-node (one.Binary sign left right.0)), up.1)))
 binary_up most below b least left ts read e = cc
-
-pub binary_rises : (most : ℕ) (below : Reader) (b least : ℕ) → Rises most (binary most below b least)
-binary_rises most below b least = record {
-  higher = λ left ts read e. let up = binary_up most below b least left ts read e in up.0;
-  low = λ left ts read e. let up = binary_up most below b least left ts read e in up.1;
-}

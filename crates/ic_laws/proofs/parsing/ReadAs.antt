@@ -1,6 +1,6 @@
 -- The function that reads a text answers the tree exactly where the text reads as it.
 use Rattle.std.proofs.Common.{◌≡◌, ℕ, List, Some, None, option_and_then, sym, ap, subst, ◌∙◌}
-use Rattle.std.proofs.lemmas.Option.{option_and_then_some, same_Some}
+use Rattle.std.proofs.lemmas.Option.{option_and_then_some}
 use Rattle.ic_laws.specs.Dialect.{DialectMeaning, IsLawful}
 use Rattle.ic_laws.specs.NextToken.{tokens_of}
 use Rattle.ic_laws.specs.Parse.{parsed}
@@ -29,7 +29,3 @@ read_as_complete d n text t r =
 -- it answers nothing exactly where no tree has the text
 pub read_as_none : (d : DialectMeaning) → IsLawful d → (text : List ℕ) (t : Spelled) → read_as d text ≡ None → Reads d text t → ⊥
 read_as_none d n text t none r = none_some t (sym none ∙ read_as_complete d n text t r)
-
--- a text reads as one tree at most
-pub reads_unique : (d : DialectMeaning) → IsLawful d → (text : List ℕ) (s t : Spelled) → Reads d text s → Reads d text t → s ≡ t
-reads_unique d n text s t a b = same_Some s t (sym (read_as_complete d n text s a) ∙ read_as_complete d n text t b)

@@ -67,9 +67,6 @@ error_begins (c ∷ e ∷ cs) h =
 pub keeps_first : (rest more : List ℕ) (t u : Token) → length rest ≤ length more → longer (Some (t, rest)) (Some (u, more)) ≡ Some (t, rest)
 keeps_first rest more t u le = rw (le-leb (length rest) (length more) le) refl
 
-hash_at : (d : DialectMeaning) (cs : List ℕ) → one_at d (35 ∷ cs) ≡ Some (Hash, cs)
-hash_at d cs = refl
-
 error_at_word : (d : DialectMeaning) → IsLawful d → (w rest : List ℕ) (e : Error) → d.find kinds.Error (35 ∷ w) ≡ Some (error_number e) → token_at d (35 ∷ (w ++ rest)) ≡ Some (Err e, rest)
 error_at_word d n w rest e f =
     let text : List ℕ = 35 ∷ (w ++ rest) in

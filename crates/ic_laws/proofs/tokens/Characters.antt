@@ -1,10 +1,10 @@
 -- What kind of character each ASCII character is: which begin a word, and which go on with one.
-use Rattle.std.proofs.Common.{◌≡◌, ℕ, zero, suc, ◌+◌, ◌-◌, ◌<◌, ◌≤◌, List, [], ◌∷◌, ◌++◌, Bool, true, false, not, ◌&&◌, ◌||◌, ◌==◌, refl, ◌∙◌, ap, subst, inl, inr, arith}
+use Rattle.std.proofs.Common.{◌≡◌, ℕ, zero, suc, ◌+◌, ◌-◌, ◌<◌, ◌≤◌, List, [], ◌∷◌, ◌++◌, Bool, true, false, not, ◌&&◌, refl, ◌∙◌, ap, subst, inl, inr, arith}
 use Rattle.std.specs.List.{list_all}
 use Rattle.std.proofs.lemmas.Bool.{and_parts, and_from, cases_Bool, leb-true}
 use Rattle.std.proofs.lemmas.Bool.Decides.{eqb_tells}
 use Rattle.ucd_derived.proofs.Computing.{ucd_derived}
-use Rattle.ic_laws.specs.Scan.{begins_word, first_is, is_blank, is_digit, is_word_character, run_of, past_run, is_ascii_letter}
+use Rattle.ic_laws.specs.Scan.{begins_word, first_is, is_blank, is_digit, is_word_character, run_of, past_run}
 
 -- a test holds of each number below this
 abbrev pub all_below : (ℕ → Bool) → ℕ → Bool
@@ -38,10 +38,6 @@ digit_begins_none c h =
 abbrev same : Bool → Bool → Bool
 same true b = b
 same false b = not b
-
-ascii_words : all_below (λ c. same (begins_word c) (is_ascii_letter c || c == 95 || c == 92)) 128 ≡ true
-unfolding ucd_derived
-ascii_words = refl
 
 -- what begins a word goes on with one
 pub begins_goes_on : (c : ℕ) → begins_word c ≡ true → is_word_character c ≡ true

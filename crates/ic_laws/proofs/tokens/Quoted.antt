@@ -12,9 +12,6 @@ use Rattle.ic_laws.specs.TokenKinds.{OfKind, is_text, closed, onto, text_at}
 abbrev pub doubled : List ℕ → List ℕ
 doubled text = flat_map (λ c. if c == 34 then 34 ∷ 34 ∷ [] else c ∷ []) text
 
-doubled_quote : (text : List ℕ) → doubled (34 ∷ text) ≡ 34 ∷ 34 ∷ doubled text
-doubled_quote text = refl
-
 pub doubled_other : (c : ℕ) (text : List ℕ) → (c == 34) ≡ false → doubled (c ∷ text) ≡ c ∷ doubled text
 doubled_other c text h = rw h refl
 

@@ -41,14 +41,6 @@ pub dollar_not_plain : is_plain 36 ≡ false
 unfolding ucd_derived
 dollar_not_plain = refl
 
-pub colon_not_plain : is_plain 58 ≡ false
-unfolding ucd_derived
-colon_not_plain = refl
-
-pub bracket_not_plain : is_plain 91 ≡ false
-unfolding ucd_derived
-bracket_not_plain = refl
-
 -- a character in front of what was read
 onto_some : (c : ℕ) (o : Option (List ℕ × List ℕ)) (name rest : List ℕ) → onto_text c o ≡ Some (name, rest) → (m : List ℕ) × (name ≡ c ∷ m) × (o ≡ Some (m, rest))
 onto_some c None name rest e = absurd (none-some (name, rest) e)

@@ -1,6 +1,6 @@
-ghost use Rattle.std.specs.Prelude.{◌≡◌, ◌++◌, [], ◌∷◌, chars, length, OnOk, ◌<◌, ◌^◌, nat_abs};
+ghost use Rattle.std.specs.Prelude.{◌≡◌, ◌++◌, OnOk, ◌<◌, ◌^◌};
 ghost use Rattle.ic_pool.specs.Code.{bit, int_sign, int_size, high, low, error_number, prefix_number, sign_number, position_kind, position_value, sheet_kind, sheet_id, part_numbers};
-ghost use Rattle.ic_pool.specs.Bytes.{text_bytes, all_bytes};
+ghost use Rattle.ic_pool.specs.Bytes.{text_bytes};
 
 use crate::Key;
 use ic_laws::{BinarySign, Error, OutOfMemory, Position, PrefixSign, RefPart, SheetMention};

@@ -1,8 +1,8 @@
-ghost use Rattle.std.specs.Prelude.{◌≡◌, ◌+◌, ◌++◌, [], ◌∷◌, chars, length, map, OnOk, IfOk};
+ghost use Rattle.std.specs.Prelude.{◌≡◌, ◌+◌, ◌++◌, [], ◌∷◌, OnOk};
 ghost use Rattle.ic_laws.specs.declared.tree.NameMention.{NameMention};
 ghost use Rattle.ic_laws.specs.declared.tree.SheetMention.{SheetMention};
 ghost use Rattle.ic_laws.specs.declared.tree.Tree.{out-Tree};
-ghost use Rattle.ic_pool.specs.Code.{pair_code, tree_code, numbers, texts, pairs_of, trees_of, place_numbers, part_numbers, sheet_kind, sheet_id, word_numbers};
+ghost use Rattle.ic_pool.specs.Code.{pair_code, tree_code, numbers, pairs_of, trees_of, place_numbers, part_numbers, sheet_kind, sheet_id, word_numbers};
 ghost use Rattle.ic_pool.specs.Bytes.{all_bytes, joined, number_bytes, text_bytes};
 
 use super::numbers::{

@@ -1,8 +1,7 @@
-ghost use Rattle.std.specs.Prelude.{◌≡◌, ◌<◌, ◌++◌, [], ◌∷◌, false, true, is_some, length, map, set, IfOk, OnOk, if◌then◌else◌};
+ghost use Rattle.std.specs.Prelude.{◌≡◌, ◌<◌, ◌++◌, [], ◌∷◌, true, is_some, length, map, set, IfOk, OnOk};
 ghost use Rattle.std.specs.List.{AllByRecursion};
 ghost use Rattle.std.specs.Option.{unwrap_or};
 ghost use Rattle.ic_laws.specs.declared.tree.Formula.{Formula};
-ghost use Rattle.ic_pool.specs.Code.{code};
 ghost use Rattle.ic_pool.specs.MentionPlaces.{HasAt, HasPassing, KeepsAll};
 ghost use Rattle.ic_pool.specs.Mentions.{formula_after, is_changed_by};
 ghost use Rattle.ic_pool.specs.Pool.{dangling_count};

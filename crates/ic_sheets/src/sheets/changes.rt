@@ -1,5 +1,5 @@
 //! Sheets come, get other names and go, and definitions come and go: what becomes of the formulas of all sheets.
-ghost use Rattle.std.specs.Prelude.{◌≡◌, ◌<◌, ◌≤◌, ◌++◌, ℕ, List, [], ◌∷◌, None, Some, IfOk, OnOk, OnErr, chars, false, true, insert, length, map, nat_eq, remove};
+ghost use Rattle.std.specs.Prelude.{◌≡◌, ◌<◌, ◌≤◌, ◌++◌, ℕ, [], ◌∷◌, None, Some, IfOk, OnOk, OnErr, chars, false, true, insert, length, map, nat_eq, remove};
 ghost use Rattle.std.specs.List.{AllByRecursion, list_any, slice_get};
 ghost use Rattle.ic_laws.specs.Changes.{definition_added, sheet_gone, sheet_named};
 ghost use Rattle.ic_laws.specs.CoreStep.{updated_at};
@@ -10,7 +10,7 @@ ghost use Rattle.ic_pool.specs.Remade.{LeavesUntouched};
 ghost use Rattle.ic_sheets.specs.Index.{FindsSheets};
 ghost use Rattle.ic_sheets.specs.Remade.{AreRemade};
 ghost use Rattle.ic_sheets.specs.Rewriting.{ArePrepared, FitOwn, FitSheets, Makes, SparesElsewhere, changed_pool, look_ups, looks_up_after, own_rewrites, sheets_of, with_all_rewrites, with_own_rewrites};
-ghost use Rattle.ic_sheets.specs.Sheet.{Sheet, empty_grid, plain_tab};
+ghost use Rattle.ic_sheets.specs.Sheet.{empty_grid, plain_tab};
 ghost use Rattle.ic_sheets.specs.declared.sheet.Sheet.{Sheet as HeldSheet};
 
 use super::Sheets;

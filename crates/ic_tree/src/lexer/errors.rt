@@ -1,5 +1,4 @@
-ghost use Rattle.std.specs.Prelude.{◌≡◌, ◌∷◌, chars, option_map, true};
-ghost use Rattle.ic_laws.specs.Character.{hash};
+ghost use Rattle.std.specs.Prelude.{◌≡◌, chars, option_map};
 ghost use Rattle.ic_laws.specs.TokenKinds.{error_at};
 ghost use Rattle.ic_tree.specs.Tokens.{token_of};
 

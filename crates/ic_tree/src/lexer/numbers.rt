@@ -1,9 +1,9 @@
-ghost use Rattle.std.specs.Prelude.{◌≡◌, ◌+◌, ◌*◌, ◌<◌, ◌≤◌, ◌^◌, pos, Some, chars, length, option_map, false, ◌||◌, ◌==◌, IfSome, MatchOption};
+ghost use Rattle.std.specs.Prelude.{◌≡◌, ◌+◌, ◌*◌, ◌<◌, ◌≤◌, ◌^◌, pos, Some, chars, length, option_map, false, ◌||◌, ◌==◌, IfSome};
 ghost use Rattle.std.specs.Str.Parse.{digits_value};
 ghost use Rattle.ic_laws.specs.Amount.{units_by, units_of_one};
 ghost use Rattle.ic_laws.specs.AmountFront.{digits_to, last_whole, number_in_one_pass, past_fraction, past_some, past_to, some_digits};
 ghost use Rattle.ic_tree.specs.Lexing.{IsWholeNumber, fraction_run, seen_token};
-ghost use Rattle.ic_laws.specs.Scan.{first_is, is_digit, joins};
+ghost use Rattle.ic_laws.specs.Scan.{first_is, joins};
 
 use crate::lexer::seen::Seen;
 use ic_laws::scan::{begins_with, first_char, is_word_character};

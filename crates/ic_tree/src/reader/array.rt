@@ -1,5 +1,5 @@
 ghost use Rattle.std.specs.Prelude.{◌≡◌, ◌∷◌, List, IfOk, option_map};
-ghost use Rattle.ic_laws.specs.Parse.{amount_of, array, constant, past_row_sign, past_separator, row};
+ghost use Rattle.ic_laws.specs.Parse.{amount_of, array, constant, past_row_sign, row};
 ghost use Rattle.ic_tree.specs.Listing.{all_listed};
 ghost use Rattle.ic_laws.specs.Token as tokens;
 

@@ -1,9 +1,9 @@
-ghost use Rattle.std.specs.Prelude.{◌≡◌, List, IfOk, Some, not, ◌&&◌, option_map};
-ghost use Rattle.ic_laws.specs.Name.{agrees, is_identifier, is_sheet_name, is_variable};
+ghost use Rattle.std.specs.Prelude.{◌≡◌, List, IfOk, Some, ◌&&◌, option_map};
+ghost use Rattle.ic_laws.specs.Name.{is_identifier, is_sheet_name, is_variable};
 ghost use Rattle.ic_laws.specs.Parse.{made_if};
 ghost use Rattle.ic_laws.specs.declared.tree.Tree.TheOpen as one;
 ghost use Rattle.ic_laws.specs.Token as tokens;
-ghost use Rattle.ic_laws.specs.Tree.{is_called_name as called_name, is_written_sheet as written_sheet};
+ghost use Rattle.ic_laws.specs.Tree.{is_called_name as called_name};
 ghost use Rattle.ic_tree.specs.Tokens.{on_own_sheet, on_sheet, token_of};
 ghost use Rattle.ic_tree.specs.Turned.{leaf, reference_leaf};
 

@@ -1,4 +1,4 @@
-ghost use Rattle.std.specs.Prelude.{◌≡◌, IfOk, Some, None, false, if◌then◌else◌};
+ghost use Rattle.std.specs.Prelude.{◌≡◌, IfOk, Some, None, false};
 ghost use Rattle.ic_laws.specs.Tree.{sign_level};
 ghost use Rattle.ic_laws.specs.Parse.{ends_argument as argument_ends, past_brace, past_close, past_row_sign, past_separator, prefix_sign};
 ghost use Rattle.ic_tree.specs.Tokens.{token_of};

@@ -1,7 +1,7 @@
 //! Values, types, places and names of cells, as the fields of replies.
-ghost use Rattle.std.specs.Prelude.{◌≡◌, ◌++◌, OnOk, chars, codes, flat_map, string_bytes, true};
+ghost use Rattle.std.specs.Prelude.{◌≡◌, ◌++◌, OnOk, chars, flat_map, string_bytes, true};
 ghost use Rattle.ic_machine.specs.Fields.{fields_of_cell, fields_of_place, optional_cell_fields, places_fields, type_field};
-ghost use Rattle.ic_machine.specs.Reply.{TextField, field_text, field_word};
+ghost use Rattle.ic_machine.specs.Reply.{field_word};
 ghost use Rattle.ic_machine.specs.subjects.Reading.{type_name, value_fields};
 ghost use Rattle.ic_words.specs.Reply.{AreTexts};
 

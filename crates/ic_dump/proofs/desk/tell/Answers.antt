@@ -1,6 +1,6 @@
 use Rattle.std.proofs.Common.{◌≡◌, ◌∙◌, ◌++◌, ℕ, List, Some, ap, subst}
 use Rattle.ic_lines.proofs.ToldLemmas.{IfTold-weaker}
-use Rattle.ic_lines.specs.Bytes.{AppendsFront, IfTold}
+use Rattle.ic_lines.specs.Bytes.{AppendsFront}
 use Rattle.ic_book.specs.Book.{core_of, notations_in}
 use Rattle.ic_book.specs.Sites.{site_of}
 use Rattle.ic_book.specs.Whole.{whole_of}

@@ -1,10 +1,9 @@
-use Rattle.std.proofs.Common.{◌≡◌, ◌+◌, ◌-◌, ◌≤◌, ◌++◌, ◌∙◌, List, ap, ap₂, arith, filter, length, map, reverse, sym}
+use Rattle.std.proofs.Common.{◌≡◌, ◌+◌, ◌-◌, ◌++◌, ◌∙◌, List, ap, ap₂, arith, filter, length, map, sym}
 use Rattle.std.proofs.lemmas.List.{length-map}
-use Rattle.std.specs.List.{range_with_len}
 use Rattle.ic_laws.specs.CoreBook.{Sheet}
 use Rattle.ic_sheets.specs.Sheet.{sheet_core}
 use Rattle.ic_book.specs.Book.{core_of, notations_in}
-use Rattle.ic_dump.specs.Lines.{body_line, body_lines, cell_lines, cell_lines_from, defining_line, defining_lines, deleting_line, deleting_lines, inserting_lines, inserting_lines_from, is_first, naming_line, naming_lines}
+use Rattle.ic_dump.specs.Lines.{body_line, body_lines, cell_lines, cell_lines_from, defining_line, defining_lines, deleting_lines, inserting_lines, inserting_lines_from, is_first, naming_line, naming_lines}
 use Rattle.ic_dump.specs.Passing.{passing_ids, standing_sheets}
 use Rattle.ic_dump.specs.Records.{core_seen, name_seen}
 use Rattle.ic_dump.proofs.DumpLemmas.{bodies_told, definitions_told, deleted_told, many_standing, six_parts}

@@ -1,4 +1,4 @@
-use Rattle.std.proofs.Common.{◌≡◌, ◌∙◌, List, None, Some, ap, option_map, sym}
+use Rattle.std.proofs.Common.{◌∙◌, List, None, Some, ap, option_map, sym}
 use Rattle.std.specs.Prelude.{flat_map}
 use Rattle.ic_laws.specs.CoreBook.{Sheet}
 use Rattle.ic_book.specs.Book.{core_of, notations_in}

@@ -1,4 +1,4 @@
-use Rattle.std.proofs.Common.{◌≡◌, ◌<◌, ◌∷◌, [], ◌∙◌, List, None, Some, ap, arith, cond, false, length, map, option_map, refl, rules, slice_get, sym, true}
+use Rattle.std.proofs.Common.{◌≡◌, ◌<◌, ◌∷◌, [], ◌∙◌, List, Some, ap, arith, cond, false, length, map, option_map, refl, rules, slice_get, sym, true}
 use Rattle.std.proofs.lemmas.Option.{slice_get-map, slice_get_read}
 use Rattle.ic_machine.specs.Refusal.{CellSite, Site}
 use Rattle.ic_book.specs.Book.{notations_in}

@@ -1,4 +1,4 @@
-use Rattle.std.proofs.Common.{OnOk, ◌++◌, ap, subst, sym}
+use Rattle.std.proofs.Common.{◌++◌, subst, sym}
 use Rattle.std.specs.Option.{option_to_list}
 use Rattle.ic_dump.specs.Records.{AreOthers}
 use Rattle.ic_dump.proofs.StandingLemmas.{on_ok_both, one_more}

@@ -1,4 +1,4 @@
-use Rattle.std.proofs.Common.{◌≡◌, ◌<◌, ◌++◌, ◌∙◌, ap, length, sym, rules, arith}
+use Rattle.std.proofs.Common.{◌<◌, ◌++◌, ◌∙◌, ap, length, sym, rules, arith}
 use Rattle.ic_dump.proofs.StageLemmas.{done_of, naming_each, naming_of, next_of}
 use Rattle.ic_dump.proofs.stages.push_naming.Goals as goal
 

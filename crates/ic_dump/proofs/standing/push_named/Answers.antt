@@ -1,4 +1,4 @@
-use Rattle.std.proofs.Common.{◌≡◌, ◌<◌, ◌∙◌, get_or, length, rules, arith, slice_get, sym}
+use Rattle.std.proofs.Common.{◌≡◌, ◌<◌, get_or, length, rules, arith, slice_get, sym}
 use Rattle.std.proofs.lemmas.List.{get_or_default}
 use Rattle.std.specs.Option.{option_copied}
 use Rattle.ic_dump.proofs.StandingLemmas.{named_next}

@@ -1,8 +1,7 @@
-use Rattle.std.proofs.Common.{◌≡◌, ◌∙◌, ◌++◌, ◌∷◌, [], ℕ, List, Some, None, Option, ap, arith, cond, length, nat_eq, subst, sym}
+use Rattle.std.proofs.Common.{◌≡◌, ◌∙◌, ◌++◌, ◌∷◌, [], ℕ, List, Some, None, ap, arith, cond, length, nat_eq, subst, sym}
 use Rattle.std.specs.BTreeMap.{get}
 use Rattle.std.specs.Option.{option_or}
 use Rattle.std.specs.Ordering.{nat_cmp}
-use Rattle.ic_laws.specs.declared.scene.SheetName.{SheetName}
 use Rattle.ic_dump.specs.Passing.{sheet_named}
 use Rattle.ic_dump.specs.Records.{AreFound}
 use Rattle.ic_dump.proofs.StandingLemmas.{found_more}

@@ -1,7 +1,6 @@
-use Rattle.std.proofs.Common.{◌≡◌, ◌+◌, ◌<◌, ◌^◌, ◌++◌, ◌∷◌, [], ◌∙◌, ap, ap₂, arith, flat_map, inl, inr, length, map, sym}
+use Rattle.std.proofs.Common.{◌≡◌, ◌+◌, ◌<◌, ◌^◌, ◌++◌, [], ◌∙◌, ap, ap₂, arith, inl, inr, length, map, sym}
 use Rattle.std.proofs.lemmas.Bool.{eqb-true}
 use Rattle.std.proofs.lemmas.List.{length-map, nil_from_length}
-use Rattle.std.specs.Option.{option_to_list}
 use Rattle.std.specs.Prelude.{vec_len, zip}
 use Rattle.ic_book.specs.Book.{core_of}
 use Rattle.ic_book.specs.Workbook.{defined_name_of}

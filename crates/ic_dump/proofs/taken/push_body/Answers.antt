@@ -1,7 +1,6 @@
-use Rattle.std.proofs.Common.{◌≡◌, ◌++◌, ◌∷◌, [], ◌∙◌, OnOk, ap, append-nil, map, option_map, slice_get, subst, sym}
+use Rattle.std.proofs.Common.{◌≡◌, ◌++◌, ◌∙◌, OnOk, ap, append-nil, map, option_map, subst, sym}
 use Rattle.std.specs.Option.{option_to_list}
 use Rattle.std.specs.Prelude.{flat_map}
-use Rattle.ic_laws.specs.CoreBook.{Definition}
 use Rattle.ic_dump.specs.Passing.{unfound_of}
 use Rattle.ic_dump.proofs.taken.push_body.Goals as goal
 

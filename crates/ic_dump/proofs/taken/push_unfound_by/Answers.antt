@@ -1,8 +1,4 @@
-use Rattle.std.proofs.Common.{◌++◌, ◌∙◌, ap, append_assoc, map, sym}
-use Rattle.std.proofs.lemmas.Grind.{flat_map-append}
-use Rattle.std.proofs.lemmas.List.{map-append}
-use Rattle.std.specs.List.{slice_get}
-use Rattle.std.specs.Prelude.{flat_map}
+use Rattle.std.proofs.Common.{map}
 use Rattle.ic_dump.proofs.TakenLemmas.{bodies_more}
 use Rattle.ic_dump.proofs.taken.push_unfound_by.Goals as goal
 

@@ -1,6 +1,4 @@
 use Rattle.std.proofs.Common.{◌≡◌, ◌-◌, chars, drop, length, IsCharBoundary}
-use denote.Text.{Utf8}
-use denote.Shadow.{shadow}
 use Rattle.ic_laws.specs.Scan.{is_plain, past_run}
 use Rattle.ic_laws.proofs.scan.past_plain.Given as goal
 

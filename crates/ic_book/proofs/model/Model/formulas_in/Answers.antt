@@ -1,7 +1,6 @@
-use Rattle.std.proofs.Common.{Some, ap, map, option_map, slice_get, subst, sym, ◌≡◌, ◌∙◌}
+use Rattle.std.proofs.Common.{Some, ap, option_map, slice_get, sym, ◌∙◌}
 use Rattle.ic_laws.specs.CoreBook.{Sheet as CoreSheet}
 use Rattle.ic_book.specs.Book.{ModelState, core_of}
-use Rattle.ic_book.specs.Lent.{placed}
 use Rattle.ic_book.proofs.HeldLemmas.{at_index, cells_are, places_of}
 use Rattle.ic_book.proofs.model.Model.formulas_in.Goals as goal
 
