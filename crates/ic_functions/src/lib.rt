@@ -1,8 +1,8 @@
 //! Tables with the words of 497 functions in five languages.
 //!
-//! The first 42 functions are those of the sample tables, and so is all that isn't about functions: a formula that reads
-//! by the sample tables reads the same by these. `src/rows` has a row for each function, `specs/All` says what tables
-//! they make. `Tables` is well-formed by its type.
+//! The first 42 functions are those of the sample tables, and so is all that isn't about functions: what the sample
+//! tables find by a number or by a word, these find too. `src/rows` has a row for each function, `specs/All` says what
+//! tables the rows make. `Tables` is well-formed by its type.
 #![tactic(auto)]
 
 mod columns;
