@@ -1,5 +1,5 @@
 -- What is told of a call answers the command that it did.
-use Rattle.std.proofs.Common.{◌≡◌, ◌≢◌, ◌≤◌, ℕ, List, ◌++◌, Bool, false, true, String, Global, Option, Some, None, Result, Ok, Err, IfOk, OnErr, OnOk, arith, chars, length, refl, rules, string_bytes, ap, sym, subst, unwrap_or, ◌∙◌}
+use Rattle.std.proofs.Common.{◌≡◌, ◌≢◌, ◌≤◌, ℕ, List, ◌++◌, Bool, false, true, String, Global, Option, Some, None, Result, Ok, Err, IfOk, OnErr, arith, chars, length, refl, rules, string_bytes, ap, sym, subst, unwrap_or, ◌∙◌}
 use Rattle.ic_machine.specs.Refusal.{BadLine, Refusal}
 use Rattle.ic_laws.specs.Name.{is_sheet_name}
 use Rattle.ic_laws.specs.declared.memory.OutOfMemory.{OutOfMemory}
@@ -79,10 +79,6 @@ never_err X (Err e) memory h none = let no : false ≡ true = sym none ∙ h in 
 pub both_ok : {T E : Type 0} {P Q R : T → Type 0} (result : Result T E) → IfOk result P → IfOk result Q → ((x : T) → P x → Q x → R x) → IfOk result R
 both_ok (Ok value) p q both = both value p q
 both_ok (Err e) p q both = tt
-
-pub on_ok : {T E X : Type 0} {P : T → Type 0} (result : Result T E) → IfOk result P → ((x : T) → P x → X) → OnOk result X
-on_ok (Ok value) p h = h value p
-on_ok (Err e) p h = tt
 
 -- a sheet's name that a call answered has at most 31 characters
 pub is_short : (done : Result (String Global × ℕ) BookError) (named : String Global × ℕ) → done ≡ Ok named → IfOk done (λ n. is_sheet_name (chars (string_bytes n.0)) ≡ true) → length (chars (string_bytes named.0)) ≤ 31

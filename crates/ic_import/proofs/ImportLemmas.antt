@@ -6,7 +6,6 @@ use Rattle.std.specs.Prelude.{is_none}
 use Rattle.ic_laws.specs.CoreStep as core
 use Rattle.ic_laws.specs.CoreStep.{core_step}
 use Rattle.ic_laws.specs.CoreBook.{CellPlace}
-use Rattle.ic_laws.specs.Character.{comma}
 use Rattle.ic_cells.specs.declared.workbook.Workbook.{Workbook}
 use Rattle.std.specs.Option.{option_map_or}
 use Rattle.ic_book.specs.Asked.{TellsHandedIn}
@@ -24,7 +23,7 @@ use Rattle.ic_tables.specs.Formats.{has_separators}
 use Rattle.std.specs.Prelude.{bytes_eq, codes}
 use Rattle.std.specs.Str.{chars}
 use Rattle.ic_machine.specs.Book as machine
-use Rattle.ic_machine.specs.Book.{Sheet, Stepped, as_core, core_of, found_or, lacks_sheet, notations_in, unless, unless_refused}
+use Rattle.ic_machine.specs.Book.{Sheet, Stepped, as_core, core_of, found_or, lacks_sheet, unless_refused}
 use Rattle.ic_machine.specs.Refusal.{InvalidColumn, InvalidRow, InvalidSheet, OfCore, Refusal, first_refusal}
 use Rattle.ic_machine.specs.Reply.{Field as Told, text_field}
 use Rattle.ic_machine.specs.subjects.Notation.{GetLanguage, GetLocale, SetLanguage, SetLocale, get_language_step, get_locale_step, notation_step, set_language_step, set_locale_step}
@@ -41,7 +40,7 @@ use Rattle.ic_book.specs.Whole.{whole_of}
 use Rattle.ic_book.specs.declared.error.BookError.{BookError}
 use Rattle.ic_book.specs.declared.error.BookError.TheVariants as book
 use Rattle.ic_import.proofs.TypingLemmas.{IsBlock, TypesLike, memory_alone, types_like}
-use Rattle.ic_import.specs.Import.{BlocksRightly, IsBlocking, IsMet, IsOfBytes, IsOfReading, IsOfRequest, IsOfTyping, NoText, Outside, Outcome, Refused as RefusedField, RefusesRequest, Request, RestsOnBytes, Tells, TellsTyping, TellsWrong, Leaves, in_notation, outcome_of, request_causes, request_refusal, separator_of, typed_outcome, typing_outcome}
+use Rattle.ic_import.specs.Import.{BlocksRightly, IsBlocking, IsMet, IsOfBytes, IsOfReading, IsOfRequest, IsOfTyping, NoText, Outside, Outcome, Refused as RefusedField, RefusesRequest, Request, RestsOnBytes, Tells, TellsTyping, TellsWrong, Leaves, in_notation, outcome_of, request_causes, request_refusal, typed_outcome, typing_outcome}
 use Rattle.ic_import.specs.Placed.{first_outside, number_of}
 use Rattle.ic_import.specs.Records.{Field, all_fields, first_no_text}
 use Rattle.ic_import.specs.Typed.{Blocked, TellsBlocked, Typable, typed}
@@ -175,13 +174,6 @@ comma_chars = refl
 -- what parts lists in a locale, and in the one that was found
 pub separator_told : (l : Locale) (is_comma : Bool) → has_separators l ≡ true → is_comma ≡ bytes_eq l.numbers.symbols.decimal (chars (codes ",")) → list_of is_comma ≡ list_separator l
 separator_told l is_comma good e = ap list_of (e ∙ ap (bytes_eq l.numbers.symbols.decimal) comma_chars) ∙ (separators_told l good).0
-
-pub separator_found : (tables : TableSet) (id : List ℕ) (l : Locale) → option_map (λ n. n.locale) (locale_of tables id) ≡ Some l → list_separator l ≡ separator_of tables id
-separator_found tables id l e = by_found (locale_of tables id) e
-  where
-    by_found : (o : Option NamedLocale) → option_map (λ n. n.locale) o ≡ Some l → list_separator l ≡ option_map_or (λ (n : NamedLocale). list_separator n.locale) o comma
-    by_found None e = cc
-    by_found (Some n) e = let same : n.locale ≡ l = cc in ap list_separator (sym same)
 
 pub locale_found : (tables : TableSet) (id : List ℕ) (l : Locale) → option_map (λ n. n.locale) (locale_of tables id) ≡ Some l → is_none (locale_of tables id) ≡ false
 locale_found tables id l e = by_found (locale_of tables id) e

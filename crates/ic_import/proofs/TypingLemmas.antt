@@ -135,10 +135,6 @@ pub error_untold : (n : FieldNumber) (e : BookError) → refusal_of e ≡ None �
 error_untold n book.OutOfMemory h = refl
 error_untold n e h = cc
 
-pub error_beside : (n : FieldNumber) (e : BookError) → (e ≡ book.OutOfMemory → ⊥) → error_of n e ≡ errors.Blocked n.at_record n.at_field e
-error_beside n book.OutOfMemory h = absurd (h refl)
-error_beside n e h = refl
-
 -- What typing keeps, and why it refuses. ----
 
 -- a step that is taken leaves the tables, and as many sheets

@@ -1,9 +1,9 @@
 -- How far a run over told bytes has come, line by line, and what its errors leave, by what one line does.
-use Rattle.std.proofs.Common.{◌≡◌, ℕ, ◌+◌, ◌≤◌, ◌<◌, ◌⊎◌, List, [], ◌∷◌, ◌++◌, length, take, drop, true, false, Option, Some, None, IsSome, Result, Ok, Err, IfErr, IsErrAnd, ap, sym, subst, ◌∙◌, refl, inl, inr, arith, append_assoc, append-nil, length-append, length-drop, if◌then◌else◌, rules}
-use Rattle.std.proofs.Math.Seq.{take-add, take-append-add}
+use Rattle.std.proofs.Common.{◌≡◌, ℕ, ◌+◌, ◌≤◌, ◌⊎◌, List, [], ◌∷◌, ◌++◌, length, take, drop, true, false, Option, Some, None, ap, sym, subst, ◌∙◌, refl, inl, inr, arith, append_assoc, append-nil, length-append, length-drop, if◌then◌else◌}
+use Rattle.std.proofs.Math.Seq.{take-append-add}
 use Rattle.std.proofs.lemmas.Bool.{cases_Bool}
 use Rattle.std.proofs.lemmas.Bool.Decides.{eqb_tells}
-use Rattle.std.proofs.lemmas.List.{drop-drop, take-append-drop}
+use Rattle.std.proofs.lemmas.List.{take-append-drop}
 use Rattle.ic_laws.specs.Lines.{texts_of}
 use Rattle.ic_lines.specs.Bytes.{AppendsFront, IfTold}
 use Rattle.ic_lines.specs.Reading.{GivesHeld, GivesLine, HasToAsk, Reading, TakesLine, has_line_feed, line_feeds, unread}

@@ -29,8 +29,8 @@ use Rattle.ic_book.proofs.WholeLemmas.{whole_core}
 use Rattle.ic_book.specs.Book.{Book}
 use Rattle.ic_book.specs.Whole.{whole_of}
 use Rattle.ic_book.specs.Workbook.{workbook_of, worksheet_of}
-use Rattle.ic_run.specs.Counts.{begins_with_o, formulas_in, formulas_of, has_formula, told_some}
-use Rattle.ic_run.specs.Make.{formula_count, is_ok, is_refused_as, told_if_some, told_names, told_refusal, told_refusals}
+use Rattle.ic_run.specs.Counts.{formulas_in, formulas_of, has_formula, told_some}
+use Rattle.ic_run.specs.Make.{formula_count, is_refused_as, told_if_some, told_names, told_refusal, told_refusals}
 
 -- a count of what a list is made into
 counts_made : {X Y : Type 0} (p : X → Bool) (q : Y → Bool) (f : Y → X) → ((y : Y) → p (f y) ≡ q y) → (ys : List Y) → count_by p (map f ys) ≡ count_by q ys
@@ -96,13 +96,6 @@ pub formulas_counted : (book : Book) → formulas_of (workbook_of book).workshee
 formulas_counted book = sym (ap (λ (c : CoreBook). length (cells_in c.sheets)) (whole_core book) ∙ sheets_counted book book.sheets)
 
 -- Replies. ----
-
-pub ok_counted : (replies : List Reply) → count_by begins_with_o (map reply_text replies) ≡ count_by is_ok replies
-ok_counted replies = counts_made begins_with_o is_ok reply_text begins replies
-  where
-    begins : (r : Reply) → begins_with_o (reply_text r) ≡ is_ok r
-    begins (Ok fields) = refl
-    begins (Err refusal) = refl
 
 refused_as : (name : List ℕ) (r : Reply) → bytes_eq (reply_text r) (codes "error\t" ++ name) ≡ is_refused_as name r
 refused_as name (Ok fields) = refl

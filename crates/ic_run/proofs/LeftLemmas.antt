@@ -1,8 +1,7 @@
 -- What lines leave and reply, by the whole machine and by the identity machine.
-use Rattle.std.proofs.Common.{◌≡◌, ℕ, List, [], ◌∷◌, ◌++◌, Option, Some, None, Result, Ok, Err, OnOk, codes, refl, ap, ap₂, sym, subst, ◌∙◌}
+use Rattle.std.proofs.Common.{◌≡◌, ℕ, List, [], ◌∷◌, ◌++◌, Option, Some, None, codes, refl, ap, ap₂, sym, subst, ◌∙◌}
 use Rattle.std.specs.Str.{chars}
 use Rattle.ic_laws.specs.CoreBook.{CoreBook}
-use Rattle.ic_laws.specs.Lines.{texts_of}
 use Rattle.ic_laws.specs.Notations.{Notations}
 use Rattle.ic_tables.specs.Tables.{TableSet}
 use Rattle.ic_tree.specs.Notations.{notations_of}
@@ -14,7 +13,7 @@ use Rattle.ic_book.specs.Book.{Book, IsSameBeside, ModelState, StepsTo, core_of,
 use Rattle.ic_book.specs.Whole.{whole_of}
 use Rattle.ic_commands.specs.Answered.{DoesLine, LeavesLine}
 use Rattle.ic_run.specs.Core.{AreCore, IsPlainBook, identity_machine, whole_machine}
-use Rattle.ic_run.specs.Run.{AppendsReplies, AppendsWhole, IsAfterAll, LinesDo}
+use Rattle.ic_run.specs.Run.{AppendsReplies, AppendsWhole, LinesDo}
 use Rattle.ic_run.proofs.CoreLineLemmas.{core_lines_done}
 
 pub lines_leave : (all : List (List ℕ)) (old new : ModelState) → LinesDo all old new → whole_of new.book ≡ after whole_machine (whole_of old.book) all
@@ -69,7 +68,3 @@ some_moment None b before now book created told = tt
 some_moment (Some bytes) None before now book created told = told
 some_moment (Some bytes) (Some left) before now book created told =
     IfTold-weaker before now (AppendsReplies whole_machine (whole_of (book created)) bytes) (AppendsWhole book bytes) (λ x y q. (created, q)) told
-
-pub always_ok : {T E X : Type 0} (r : Result T E) → X → OnOk r X
-always_ok (Ok value) x = x
-always_ok (Err e) x = tt

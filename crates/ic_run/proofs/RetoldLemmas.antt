@@ -1,5 +1,5 @@
 -- Lines written anew have no line feed; the texts of their words.
-use Rattle.std.proofs.Common.{◌≡◌, ◌<◌, ℕ, suc, ◌+◌, ◌-◌, List, [], ◌∷◌, ◌++◌, false, flat_map, length, take, drop, Option, Some, None, option_map, get_or, map, inl, inr, refl, sym, ap, subst, ◌∙◌, append_assoc, append-nil, arith}
+use Rattle.std.proofs.Common.{◌≡◌, ◌<◌, ℕ, suc, ◌+◌, ◌-◌, List, [], ◌∷◌, ◌++◌, false, flat_map, length, take, drop, Option, Some, None, option_map, get_or, map, inl, inr, refl, sym, ap, subst, ◌∙◌, append_assoc, arith}
 use Rattle.std.specs.Prelude.{option_and_then, unwrap_or}
 use Rattle.std.proofs.lemmas.Bool.Decides.{eqb_tells}
 use Rattle.std.proofs.lemmas.List.{drop_more, get_or-map, length-map}
@@ -82,11 +82,6 @@ no_text line texts count w so_far next is =
     ap (λ o. unwrap_or o [])
     (so_far ∙ ap (λ ws. option_map (λ rest. texts ++ rest) (word_texts ws)) next
     ∙ ap (λ o. option_map (λ rest. texts ++ rest) (option_and_then (λ t. option_map (λ ts. t ∷ ts) (word_texts (drop (count + 1) (words_of line)))) o)) is)
-
--- and at the end there are all
-pub all_texts : (line : List ℕ) (texts : List (List ℕ)) (count : ℕ) → AreSoFar (words_of line) count texts → drop count (words_of line) ≡ [] → texts_of line ≡ texts
-all_texts line texts count so_far none =
-    ap (λ o. unwrap_or o []) (so_far ∙ ap (λ ws. option_map (λ rest. texts ++ rest) (word_texts ws)) none) ∙ append-nil texts
 
 -- The word after the first ones, in the texts of words. ----
 next_word : {A : Type 0} (f : A → List ℕ) (xs : List A) (k : ℕ) (d : A) → k < length xs → drop k (map f xs) ≡ f (get_or xs k d) ∷ drop (k + 1) (map f xs)

@@ -1,5 +1,5 @@
 -- The next of some lines, and what the result of a run tells.
-use Rattle.std.proofs.Common.{◌≡◌, ℕ, ◌+◌, ◌<◌, List, [], ◌∷◌, ◌++◌, length, take, drop, ap, sym, ◌∙◌, arith, append_assoc, append-nil, length-drop, Result, Ok, Err, Option, Some, IsSome, IfOk, IfErr, IsErrAnd, OnOk, subst, rules}
+use Rattle.std.proofs.Common.{◌≡◌, ℕ, ◌+◌, ◌<◌, List, [], ◌∷◌, ◌++◌, length, take, drop, ap, sym, ◌∙◌, arith, length-drop, Result, Ok, Err, Option, Some, IsSome, IfOk, IfErr, IsErrAnd, OnOk, subst, rules}
 use Rattle.std.proofs.Math.Seq.{take-add}
 use Rattle.std.proofs.lemmas.List.{drop-drop}
 use Rattle.ic_lines.specs.Bytes.{IfTold}

@@ -1,12 +1,11 @@
 -- What a line comes to in a translation, and how lines follow one another.
-use Rattle.std.proofs.Common.{◌≡◌, ◌⊎◌, ◌≤◌, ◌<◌, ℕ, ◌+◌, ◌-◌, List, [], ◌∷◌, ◌++◌, Bool, true, false, ◌||◌, length, take, drop, Option, Some, None, IsSome, option_map, IsErr, IsErrAnd, Result, Ok, Err, inl, inr, refl, sym, ap, subst, ◌∙◌, append_assoc, append-nil, arith, if◌then◌else◌}
+use Rattle.std.proofs.Common.{◌≡◌, ◌⊎◌, ◌<◌, ℕ, ◌+◌, ◌-◌, List, [], ◌∷◌, ◌++◌, Bool, true, false, ◌||◌, length, take, drop, Option, Some, None, IsSome, option_map, IsErr, IsErrAnd, Result, Ok, Err, inl, inr, refl, sym, ap, subst, ◌∙◌, append_assoc, append-nil, arith, if◌then◌else◌}
 use Rattle.std.specs.Prelude.{option_and_then}
 use Rattle.std.proofs.Math.Seq.{drop-length}
 use Rattle.ic_machine.proofs.ReaderLemmas.{readers_leave}
 use Rattle.ic_machine.specs.Book.{Book, Stepped}
 use Rattle.ic_machine.specs.Command.{Command, command_in, commands}
 use Rattle.ic_machine.specs.Readers.{LeavesIf, is_reader}
-use Rattle.ic_machine.specs.Reply.{Reply, reply_text}
 use Rattle.ic_machine.specs.Run.{after}
 use Rattle.ic_machine.specs.Step.{command_step, english_errors, line_step, machine, outcome_of, step}
 use Rattle.ic_machine.specs.Translation.{AreTranslated, AreTranslatedTexts, IsTranslation, StandsBefore, Why, first_hindered, first_of, in_notation, is_dropped, is_switch, kept_command, kept_in, left_after, left_by, line_of, own_formula, texts_of, why_line_not, why_not}
@@ -14,7 +13,6 @@ use Rattle.ic_book.specs.Book.{NotationState}
 use Rattle.ic_book.specs.Translated.{IsIn, IsToldOf, IsToldWhere, formula_owned, why_meant}
 use Rattle.ic_book.specs.declared.own_text.OwnText.{OwnText}
 use Rattle.ic_book.specs.declared.own_text.Why as code
-use Rattle.ic_run.specs.Counts.{begins_with_o}
 use Rattle.ic_run.specs.Make.{is_ok}
 use Rattle.ic_run.specs.Translate.{HasRunSome, HasTranslated, IsTurn, StaysSo}
 use Rattle.ic_run.specs.declared.translating.TranslateError.{TranslateError}
@@ -24,10 +22,6 @@ use Rattle.ic_run.proofs.RunLemmas.{next_taken}
 use Rattle.ic_run.proofs.TablesStay.{tables_stay}
 
 -- Replies. ----
-
-pub accepted_text : (r : Reply) → begins_with_o (reply_text r) ≡ is_ok r
-accepted_text (Ok fields) = refl
-accepted_text (Err refusal) = refl
 
 -- a step that is accepted, and one that isn't
 left_accepted : (book : Book) (made : Stepped Book) → true ≡ is_ok (outcome_of book made).1 → left_by made ≡ Some (outcome_of book made).0
@@ -78,18 +72,6 @@ module _ (old : Book) (line : List ℕ) (command : Command) (is : command_in (en
   pub goes_unrun : (locale language : List ℕ) → (is_reader command ≡ true) ⊎ (left_by (step old command) ≡ None) → IsTurn locale language old line old turns.Goes
   goes_unrun locale language (inl read) = (dropped (ap (λ (b : Bool). b || is_switch command) read), reads read ∙ sym left_is)
   goes_unrun locale language (inr none) = (refused none, stays_refused old (step old command) none ∙ sym left_is)
-
-  -- one that chooses the notation
-  pub goes_switched : (locale language : List ℕ) (new : Book) → is_switch command ≡ true → new ≡ left_after old line → IsTurn locale language old line new turns.Goes
-  goes_switched locale language new e left = (dropped (ap (λ (b : Bool). is_reader command || b) e ∙ either (is_reader command)), left)
-    where
-      either : (b : Bool) → (b || true) ≡ true
-      either true = refl
-      either false = refl
-
-  -- one that was run and refused
-  pub goes_refused : (locale language : List ℕ) (new : Book) → false ≡ is_ok (line_step commands old line).1 → new ≡ left_after old line → IsTurn locale language old line new turns.Goes
-  goes_refused locale language new e left = (refused (left_refused old (step old command) (e ∙ ap is_ok told_is)), left)
 
   -- one that was run and accepted, and doesn't go
   module _ (stays : is_dropped command ≡ false) (new : Book) (e : true ≡ is_ok (line_step commands old line).1) (left : new ≡ left_after old line) where
@@ -162,9 +144,6 @@ module _ (locale language : List ℕ) where
     pub becomes : (rest : List (List ℕ)) → AreTranslated locale language book (drop count lines) rest → AreTranslated locale language start lines (made ++ rest)
     pub tables : book.tables ≡ start.tables
 
-  pub none_yet : (start : Book) (lines : List (List ℕ)) → IsSoFar start lines 0 start []
-  none_yet start lines = record { hindered = refl; left = refl; becomes = λ rest h. h; tables = refl }
-
   module _ (start : Book) (lines : List (List ℕ)) (count : ℕ) (book : Book) (made : List (List ℕ)) (so_far : IsSoFar start lines count book made) (line : List ℕ) (next : drop count lines ≡ line ∷ drop (count + 1) lines) where
     abbrev more : List (List ℕ)
     more = drop (count + 1) lines
@@ -209,14 +188,6 @@ module _ (locale language : List ℕ) where
       tables = tables_so new turn.1;
     }
 
-    pub cannot_here : (new : Book) (why : code.Why) → IsTurn locale language book line new (turns.Cannot why) → IsTranslation locale language start lines (Err (count + 1, why_meant why)) new
-    cannot_here new why turn =
-        let less : count + 1 - 1 ≡ count = omega arith in (
-          so_far.hindered ∙ ap (first_hindered locale language (count + 1) book) next
-              ∙ ap (λ (o : Option Why). first_of (count + 1) o (first_hindered locale language (count + 1 + 1) (left_after book line) more)) turn.0,
-          turn.1 ∙ so_far.left ∙ ap (λ (n : ℕ). after (machine commands) start (take n lines)) (sym less),
-        )
-
     -- memory ran out in this line
     pub memory_here : count < length lines → (new : Book) → (new ≡ book) ⊎ (new ≡ left_after book line) → HasRunSome locale language start lines new
     memory_here h new (inl same) = record { count = count; within = omega (arith, h); left = same ∙ so_far.left }
@@ -234,9 +205,6 @@ module _ (locale language : List ℕ) where
       whole : (xs : List (List ℕ)) → take (length xs) xs ≡ xs
       whole [] = refl
       whole (x ∷ xs) = ap (λ (ys : List (List ℕ)). x ∷ ys) (whole xs)
-
-  pub some_done : (start : Book) (lines : List (List ℕ)) (count : ℕ) (book : Book) (made : List (List ℕ)) → IsSoFar start lines count book made → count ≤ length lines → HasRunSome locale language start lines book
-  some_done start lines count book made so_far h = record { count = count; within = h; left = so_far.left }
 
 -- An answer that is this error. ----
 

@@ -14,7 +14,7 @@ use Rattle.ic_machine.specs.Run.{after}
 use Rattle.ic_machine.specs.Same.{IsSameBook}
 use Rattle.ic_machine.specs.Step.{machine, step}
 use Rattle.ic_machine.specs.Translation as translation
-use Rattle.ic_machine.specs.Translation.{AreTranslatedTexts, IsKeptLine, IsTranslation, first_hindered, is_dropped, is_switch, kept_in, left_after, left_by, own_formula, why_line_not, with_last}
+use Rattle.ic_machine.specs.Translation.{AreTranslatedTexts, IsKeptLine, IsTranslation, first_hindered, is_dropped, is_switch, kept_in, left_after, left_by, own_formula, why_line_not}
 use Rattle.ic_machine.specs.TranslationLaws.{AreAccepted, BodiesEndPlain}
 use Rattle.ic_machine.specs.subjects.Sheets.{NewSheet, new_sheet_name}
 use Rattle.ic_book.specs.Book.{NotationState}

@@ -1,5 +1,5 @@
 //! What is told of lines that were answered: how many replies there are of each kind, and what the book has.
-ghost use Rattle.std.specs.Prelude.{◌≡◌, ◌++◌, IfOk, List, OnOk, bytes_eq, flat_map, length, map, string_bytes};
+ghost use Rattle.std.specs.Prelude.{◌≡◌, ◌++◌, IfOk, List, OnOk, flat_map, length, map, string_bytes};
 ghost use Rattle.std.specs.BTreeMap.{IsOrdered, values};
 ghost use Rattle.std.specs.List.{count_by};
 ghost use Rattle.ic_cells.specs.Maps.{place_cmp};

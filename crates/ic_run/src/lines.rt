@@ -36,8 +36,8 @@ pub fn run<S: Source, K: Sink>(
         (identity_machine (notations_in model.old.book)) (core_of model.old.book) bytes))) }
 
     // For all lines it is so with the whole book, by the whole machine, and with its replies.
-    ensures whole { OnOk result
-        (IfTold (S.left source.old) (S.left source.new) (IsAfterAll model.old.book model.new.book)) }
+    ensures whole { OnOk result (IfTold (S.left source.old) (S.left source.new)
+        (IsAfterAll model.old.book model.new.book)) }
     ensures all_replies { OnOk result (IfTold (S.left source.old) (S.left source.new) (λ bytes _.
         IfTold (K.written sink.old) (K.written sink.new)
         (AppendsReplies whole_machine (whole_of model.old.book) bytes))) }
@@ -82,7 +82,6 @@ pub fn run<S: Source, K: Sink>(
 struct Commands;
 
 impl Answers for Commands {
-    ghost use Rattle.ic_book.specs.Book.{ModelState};
     ghost use Rattle.ic_commands.specs.Answered.{DoesLine};
 
     ghost is_ready = { λ _ model. Unit {0} };

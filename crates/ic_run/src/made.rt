@@ -1,5 +1,5 @@
 //! The command lines that are made from a seed.
-ghost use Rattle.std.specs.Prelude.{◌≡◌, ◌<◌, ◌≤◌, IfOk, OnOk, chars, string_bytes};
+ghost use Rattle.std.specs.Prelude.{◌≡◌, ◌<◌, IfOk, OnOk, string_bytes};
 ghost use Rattle.ic_run.specs.Make.{IsPlainLine, code_at, drawn, made_command, made_of_kind, made_text, next_state};
 
 use ic_laws::{OutOfMemory, Text};

@@ -1,5 +1,5 @@
 //! Command lines in another notation, so that they leave the same book.
-ghost use Rattle.std.specs.Prelude.{List, ℕ, true, Err, IfErr, ◌≡◌, ◌⊎◌, IfOk, IsSome, None, OnErr, OnOk, Some, chars, false};
+ghost use Rattle.std.specs.Prelude.{List, ℕ, true, Err, IfErr, ◌≡◌, ◌⊎◌, IfOk, OnErr, OnOk, Some, chars, false};
 ghost use Rattle.ic_machine.specs.Book as machine;
 ghost use Rattle.ic_machine.specs.Command.{Command, OnSheets, command_in, commands};
 ghost use Rattle.ic_machine.specs.Step.{english_errors, line_step};
@@ -8,7 +8,6 @@ ghost use Rattle.ic_machine.specs.subjects.Sheets.{NewSheet, new_sheet_name};
 ghost use Rattle.ic_book.specs.Book.{IsValidBook};
 ghost use Rattle.ic_book.specs.Translated.{IsToldWhere, notation_refusal};
 ghost use Rattle.ic_book.specs.Whole.{whole_of};
-ghost use Rattle.ic_run.specs.Counts.{begins_with_o};
 ghost use Rattle.ic_run.specs.Make.{is_ok};
 ghost use Rattle.ic_run.specs.Translate.{AreAcceptedBeside, HasTranslated, IsPlan, IsTurn, StaysSo, unknown_told};
 

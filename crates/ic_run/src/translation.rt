@@ -1,5 +1,5 @@
 //! What the words `translate LOCALE LANGUAGE` do: the lines of the source are translated, and what they become is written.
-ghost use Rattle.std.specs.Prelude.{◌≡◌, ◌≢◌, ◌⊎◌, ◌↔◌, ◌+◌, ◌++◌, ◌∷◌, [], ◌<◌, ◌≤◌, ◌^◌, true, Err, Ok, IfOk, IsNone, IsSome, IsSomeAnd, OnOk, chars, flat_map, is_some, length, option_map, string_bytes};
+ghost use Rattle.std.specs.Prelude.{◌≡◌, ◌≢◌, ◌⊎◌, ◌↔◌, ◌+◌, ◌++◌, [], ◌<◌, ◌≤◌, ◌^◌, true, Err, Ok, IfOk, IsNone, IsSome, IsSomeAnd, OnOk, chars, flat_map, is_some, length, option_map, string_bytes};
 ghost use Rattle.ic_laws.specs.Lines.{escaped, texts_of};
 ghost use Rattle.ic_lines.specs.Bytes.{AppendsFront, HasFault, IfTold};
 ghost use Rattle.ic_book.specs.Translated.{why_meant};

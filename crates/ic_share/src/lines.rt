@@ -67,7 +67,6 @@ pub fn share<S: Source, K: Sink>(
 
 impl Answers for Users {
     ghost use Rattle.std.specs.Prelude.{◌≡◌};
-    ghost use Rattle.ic_book.specs.Book.{ModelState};
     ghost use Rattle.ic_book.specs.Whole.{whole_of};
     ghost use Rattle.ic_share.specs.Share.{DoesShared, IsKnown, shared_by};
 

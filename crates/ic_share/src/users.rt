@@ -138,7 +138,8 @@ impl Users {
             (string_bytes reply)) }
         ensures languages { OnOk result (self.new.languages ≡ languages_left (chars user.now)
             (command_in (english_errors (whole_of model.old.book)) commands (chars command.now))
-            (line_step commands (whole_of model.old.book) (chars command.now)).1 self.old.languages) }
+            (line_step commands (whole_of model.old.book) (chars command.now)).1
+            self.old.languages) }
         ensures own { self.new.own ≡ self.old.own }
         ensures stays { OnErr result (self.new.languages ≡ self.old.languages) }
         ensures err { OnErr result (in_language [] (whole_of model.new.book)

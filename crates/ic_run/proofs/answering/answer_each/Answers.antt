@@ -1,4 +1,4 @@
-use Rattle.std.proofs.Common.{◌+◌, ◌*◌, ◌≤◌, length, false, Some, None, Err, subst, sym, ap, ◌∙◌, refl, arith, inl, inr}
+use Rattle.std.proofs.Common.{◌+◌, ◌*◌, ◌≤◌, length, false, Some, Err, subst, sym, ap, ◌∙◌, refl, arith, inl, inr}
 use Rattle.ic_lines.specs.Bytes.{IfTold}
 use Rattle.ic_lines.specs.Reading.{GivesHeld, GivesLine, Reading, SeesEnd, budget, unread}
 use Rattle.ic_lines.proofs.TakeLemmas.{SeesEnd-join, SeesEnd-start}

@@ -1,4 +1,4 @@
-use Rattle.std.proofs.Common.{ℕ, List, [], ◌≡◌, sym, subst, ◌∙◌}
+use Rattle.std.proofs.Common.{[], ◌≡◌, sym, subst, ◌∙◌}
 use Rattle.ic_lines.specs.Bytes.{IfTold}
 use Rattle.ic_book.specs.Book.{Book}
 use Rattle.ic_run.specs.Desk.{start_book}
