@@ -1,0 +1,3 @@
+mod FirstLines
+mod RunLemmas
+pub mod Values

@@ -1,0 +1,129 @@
+"""A book of the library: opened, asked lines, closed. `Book` has a method for each command over it."""
+from __future__ import annotations
+
+import ctypes
+import threading
+from collections.abc import Iterable
+from datetime import datetime, timedelta, timezone
+
+from .errors import Closed, LurvettaError, Refused, WantOfMemory
+from .library import INVALID_MOMENT, NO_MEMORY, NO_ROOM, NOT_OPEN, OK, REFUSALS, Room, library, tables, tables_lock
+from .words import unescaped
+
+# The bytes that a reply has room for before it is asked for again, at first.
+_ROOM = 4096
+
+_EPOCH = datetime(1970, 1, 1, tzinfo=timezone.utc)
+
+
+class Handle:
+    """The room of a book, with a lock that gives it to one call at a time."""
+
+    def __init__(self, name: str, locale: str, language: str, zone: str, moment: datetime | None) -> None:
+        self._lock = threading.Lock()
+        self._room = Room()
+        self._told = ctypes.c_size_t()
+        self._at = ctypes.addressof(self._room)
+        self._told_at = ctypes.addressof(self._told)
+        self._make_out(_ROOM)
+        words = [it.encode() for it in (name, locale, language, zone)]
+        with tables_lock:
+            status = library.lurvetta_open(
+                self._at, ctypes.addressof(tables), *(part for it in words for part in (it, len(it))), _milliseconds(moment)
+            )
+        if status == NO_MEMORY:
+            raise WantOfMemory
+        if status == INVALID_MOMENT:
+            raise LurvettaError("The moment is outside the years -9999 to 9999")
+        if status != OK:
+            raise Refused(REFUSALS[status])
+        self._name = name
+
+    def _make_out(self, size: int) -> None:
+        self._out = ctypes.create_string_buffer(size)
+        self._out_at = ctypes.addressof(self._out)
+        self._out_len = size
+
+    def _ask(self, call, given: bytes) -> tuple[int, bytes]:
+        """The status of a call that answers lines, and the reply that it leaves."""
+        with self._lock:
+            status = call(self._at, given, len(given), self._out_at, self._out_len, self._told_at)
+            if status == NOT_OPEN:
+                raise Closed
+            length = self._told.value
+            if status == OK:
+                return status, ctypes.string_at(self._out_at, length)
+            if length > self._out_len:
+                self._make_out(length)
+            if length:
+                library.lurvetta_copy(self._at, self._out_at, self._out_len, self._told_at)
+            reply = ctypes.string_at(self._out_at, length)
+            if self._out_len > 1 << 20:
+                self._make_out(_ROOM)
+            return (OK if status == NO_ROOM else status), reply
+
+    def answer(self, line: str) -> str:
+        r"""The reply to a command line, without the line feed that ends it.
+
+        >>> from lurvetta import Book
+        >>> Book().answer("get_locale")
+        'ok\ten'
+        """
+        status, reply = self._ask(library.lurvetta_answer, line.encode())
+        if status == NO_MEMORY:
+            raise WantOfMemory
+        return reply[:-1].decode()
+
+    def run(self, lines: Iterable[str]) -> list[str]:
+        """The replies to command lines, in one call. No line has a line feed in it.
+
+        Where memory runs out, `WantOfMemory` has the replies to the lines that were answered.
+        """
+        lines = list(lines)
+        for line in lines:
+            if "\n" in line:
+                raise ValueError(f"a line feed stands in {line!r}")
+        status, replies = self._ask(library.lurvetta_run, "".join(f"{line}\r\n" for line in lines).encode())
+        told = replies.decode().split("\n")[:-1]
+        if status == NO_MEMORY:
+            raise WantOfMemory(told)
+        return told
+
+    def run_bytes(self, lines: bytes) -> bytes:
+        """The replies to the lines of a file, as the program of command lines writes them."""
+        status, replies = self._ask(library.lurvetta_run, lines)
+        if status == NO_MEMORY:
+            raise WantOfMemory(replies.decode().split("\n")[:-1])
+        return replies
+
+    def _command(self, *words: str) -> list[str]:
+        """The fields of the reply to a command."""
+        reply = self.answer("\t".join(words))
+        if reply == "ok":
+            return []
+        kind, *fields = reply.split("\t")
+        if kind == "error":
+            raise Refused(fields[0])
+        return [unescaped(it) for it in fields]
+
+    def close(self) -> None:
+        """Closes the book and frees it. It may be called again."""
+        with self._lock:
+            library.lurvetta_close(self._at)
+
+    def __enter__(self):
+        return self
+
+    def __exit__(self, *_: object) -> None:
+        self.close()
+
+    def __del__(self) -> None:
+        if hasattr(self, "_told_at"):
+            library.lurvetta_close(self._at)
+
+
+def _milliseconds(moment: datetime | None) -> int:
+    """After the Unix epoch; a moment without a zone is local time, and none is now."""
+    if moment is None:
+        moment = datetime.now(timezone.utc)
+    return (moment.astimezone(timezone.utc) - _EPOCH) // timedelta(milliseconds=1)
