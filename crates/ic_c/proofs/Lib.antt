@@ -1,3 +1,4 @@
 mod FirstLines
+mod OpenLemmas
 mod RunLemmas
 pub mod Values
