@@ -1,4 +1,3 @@
 mod FirstLines
-mod OpenLemmas
 mod RunLemmas
 pub mod Values
