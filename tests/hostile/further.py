@@ -1,13 +1,14 @@
-"""The shared book and the import in hostile use: memory, streams and words.
+"""The shared book, the import and the dump in hostile use: memory, streams and words.
 
-python3 tests/hostile/further.py share|import PROGRAM [--most=N]: PROGRAM is ic_share_desk or ic_import_desk. `share` runs
+python3 tests/hostile/further.py share|import|dump PROGRAM [--most=N]: PROGRAM is ic_share_desk, ic_import_desk or ic_dump_desk. `share` runs
 tests/reading/sessions/household.lines as the lines of three users with languages of their own, between some that are nobody's;
-`import` runs a file of a bank in German, and files that are refused. In turn: each call of malloc and realloc is refused, alone and with
+`import` runs a file of a bank in German, and files that are refused; `dump` runs the household book with a sheet deleted, and a text
+that would read. In turn: each call of malloc and realloc is refused, alone and with
 all that come after it (with --most=N only so many, at even distances); each limit of address space; each read and each
 write fails once, in pieces of 1, 7 and 4,096 bytes; each beginning of the input; inputs and outputs that are closed, full, folders or
 left; words that are none. A shared book ends as it does unharmed, or with the status for the harm after the first of the same
-replies, whole, and after a write that failed after exactly what was taken. An import ends as it does unharmed, or with that status
-and nothing written, or exactly what was taken. The status is 1 where some run ends otherwise. Each of both takes two minutes."""
+replies, whole, and after a write that failed after exactly what was taken. An import and a dump end as they do unharmed, or with that
+status and nothing written, or exactly what was taken. The status is 1 where some run ends otherwise. Each takes two minutes."""
 import os
 import signal
 import subprocess
@@ -35,15 +36,34 @@ FILES = {
 }
 
 
+GONE = b"add_sheet\tGone\nnew_defined_name\tlast\t1\tGone!$A$1\nupdate_cell_with_formula\t0\t99\t1\t=Gone!last+gone!B2\ndelete_sheet\t1\n"
+# what a dump without lines tells of a new book
+NEW = b"rename_sheet_by_index\t0\tSheet1\n"
+CANNOT = b"cannot\tRereads\n"
+
+
+def household():
+    with open(faults.HOUSEHOLD, "rb") as f:
+        return f.read()
+
+
+def dumped():
+    """What is dumped."""
+    return {
+        "a book with a sheet deleted": (GONE + household(), ()),
+        "a text that would read": (b"set_locale\tfr\nupdate_cell_with_formula\t0\t1\t1\t=SUM(1.5,2)\n", ()),
+        "nothing": (b"", ()),
+    }
+
+
 def shared():
     """The lines of the three users."""
-    with open(faults.HOUSEHOLD, "rb") as f:
-        lines = f.read().splitlines(keepends=True)
+    lines = household().splitlines(keepends=True)
     return FIRST + b"".join(USERS[i % len(USERS)] + b"\t" + line for i, line in enumerate(lines))
 
 
 class Cut(Tried):
-    """An import that lacks memory has written nothing."""
+    """An import or a dump that lacks memory has written nothing."""
 
     def __init__(self, kind):
         super().__init__()
@@ -106,14 +126,14 @@ def faulty(kind, program, name, given, words, looked):
             if kind == "share":
                 tries = faults.faulty(program, shim, given, whole.output.splitlines(keepends=True), size)
             else:
-                tries = faulty_import(program, shim, given, words, whole, size)
+                tries = faulty_whole(program, shim, given, words, whole, size)
             for what, ran, status, output in tries:
                 looked.look(f"{name}, pieces of {size} bytes, {what}", ran[:2], (status, output))
     print(f"{name}, reads and writes that fail: {looked.runs} runs, {looked.wrong} wrong so far", flush=True)
 
 
-def faulty_import(program, shim, given, words, whole, size):
-    """The same of an import, which reads all before it writes."""
+def faulty_whole(program, shim, given, words, whole, size):
+    """The same of an import or a dump, which reads all before it writes."""
     def ran(name, number):
         return run(program, given, words=words, environment={"LD_PRELOAD": shim, "PIECE": str(size), name: str(number)})
 
@@ -133,25 +153,36 @@ def ended(program, words, given, **with_streams):
     return ran.returncode, ran.stdout or b"", ran.stderr
 
 
-def streams_of_import(program, given, words, looked):
-    """Beginnings, and inputs and outputs that are none."""
+def well_told(status, output):
+    """Whether all was written, or the one line that tells why not."""
+    if status == 7:
+        return output == CANNOT
+    return output.endswith(b"\tNotUtf8\n") if status == 8 else status == 0 and output.endswith(b"\n")
+
+
+def streams_of_whole(program, given, words, nothing, looked):
+    """Beginnings, and inputs and outputs that are none; where nothing is given, `nothing` is written."""
     for end in range(len(given) + 1):
         status, output, said = ended(program, words, given[:end])
-        named = output.endswith(b"\tNotUtf8\n") if status == 8 else status == 0 and output.endswith(b"\n")
-        looked.look(f"the first {end} bytes", (named, said), (True, b""))
+        looked.look(f"the first {end} bytes", (well_told(status, output), said), (True, b""))
     for name, path, flags in (("a folder as the input", HERE, os.O_RDONLY), ("an input that can't be read", os.devnull, os.O_WRONLY)):
         source = os.open(path, flags)
         ran = subprocess.run([program, *words], stdin=source, stdout=subprocess.PIPE, stderr=subprocess.PIPE)
         looked.look(name, (ran.returncode, ran.stdout, ran.stderr), (streams.READ_FAULT, b"", b""))
         os.close(source)
     for redirected, status, output in (("<&-", streams.READ_FAULT, b""), (">&-", streams.WRITE_FAULT, b""), (">/dev/full", streams.WRITE_FAULT, b""),
-                                       ("</dev/null", 0, b"\n"), ("</dev/null >&-", streams.WRITE_FAULT, b"")):
+                                       ("</dev/null", 0, nothing), ("</dev/null >&-", streams.WRITE_FAULT, b"")):
         ran = subprocess.run(["sh", "-c", f"exec '{program}' {' '.join(words)} {redirected}"], input=given, stdout=subprocess.PIPE, stderr=subprocess.PIPE)
         looked.look(redirected, (ran.returncode, ran.stdout, ran.stderr), (status, output, b""))
     reading, writing = os.pipe()
     os.close(reading)
     looked.look("a reader that is gone", ended(program, words, given, stdout=writing), (streams.WRITE_FAULT, b"", b""))
     os.close(writing)
+
+
+def words_of_dump(program, looked):
+    for words in ([""], ["-"], ["--help"], ["run", "en", "en", "UTC"], ["a" * 100_000], ["de"] * 10_000, [b"\xff"]):
+        looked.look(f"the words {words[:5]}", ended(program, words, b"a\n"), (streams.USAGE, b"", b""))
 
 
 def words_of_import(program, looked):
@@ -165,7 +196,7 @@ def main(kind, program, *options):
     signal.alarm(3600)
     program = os.path.abspath(program)
     most = next((int(word[len("--most="):]) for word in options if word.startswith("--most=")), 1_000_000)
-    files = {"three users": (shared(), ())} if kind == "share" else FILES
+    files = {"share": lambda: {"three users": (shared(), ())}, "import": lambda: FILES, "dump": dumped}[kind]()
     tried, looked = Cut(kind), streams.Looked()
     for name, (given, words) in files.items():
         refused(program, name, given, words, most, tried)
@@ -175,8 +206,11 @@ def main(kind, program, *options):
         for part in (streams.inputs, streams.outputs, streams.slow_reader):
             part(program, shared(), looked)
         streams.words(program, looked)
+    elif kind == "dump":
+        streams_of_whole(program, GONE + household(), (), NEW, looked)
+        words_of_dump(program, looked)
     else:
-        streams_of_import(program, BANK, ("de", "de"), looked)
+        streams_of_whole(program, BANK, ("de", "de"), b"\n", looked)
         words_of_import(program, looked)
     print(f"streams and words: {looked.runs} runs, of which {looked.wrong} ended as none may")
     return 1 if looked.wrong or tried.told() else 0

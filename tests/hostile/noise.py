@@ -14,7 +14,7 @@ import sys
 from runs import MEGABYTE, ending, run
 
 TESTS = os.path.dirname(os.path.dirname(os.path.abspath(__file__)))
-COMMANDS = os.path.join(os.path.dirname(TESTS), "docs", "COMMANDS.md")
+COMMANDS, REFUSALS = (os.path.join(os.path.dirname(TESTS), "docs", name) for name in ("COMMANDS.md", "REFUSALS.md"))
 sys.path.insert(0, os.path.join(TESTS, "reading"))
 
 from ic_machine.command import COMMANDS as ALL  # noqa: E402
@@ -61,8 +61,10 @@ class Looked:
     def __init__(self):
         with open(COMMANDS, encoding="utf-8") as f:
             text = f.read()
-        self.forms = re.findall(r"`([a-z_]+(?:→[A-Z.]+)*)`", "\n".join(line.split("|")[1] for line in text.splitlines() if line.startswith("| `") and "error→" not in line))
-        self.errors = {f"error\t{name}".encode() for name in re.findall(r"`error→([A-Za-z]+)`", text)}
+        self.forms = re.findall(r"`([a-z_]+(?:→[A-Z.]+)*)`", "\n".join(line.split("|")[1] for line in text.splitlines() if line.startswith("| `")))
+        with open(REFUSALS, encoding="utf-8") as f:
+            book = f.read().split("\n## ")[1]
+        self.errors = {f"error\t{name}".encode() for name in re.findall(r"^\| `([A-Za-z]+)", book, re.M)}
         self.lines = self.runs = self.wrong = 0
         missing = {row[0] for row in ALL} ^ {form.split("→")[0] for form in self.forms}
         if missing:

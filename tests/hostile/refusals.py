@@ -1,18 +1,16 @@
-"""Finds a row of cases for each refusal, and looks whether the rows that docs/REFUSALS.md names say what it says.
+"""Finds a row of cases for each refusal, and looks whether the rows that two pages name say what these say: docs/REFUSALS.md and
+tests/hostile/REFUSED.md.
 
 python3 tests/hostile/refusals.py [ROWS ANSWERS].. [--table]: the rows are those of crates/ic_cases (stdin and stdout), and of the
 files told besides. For each command of docs/COMMANDS.md each refusal that it lists, and a bad line, has to have a row; and in the tables of
-docs/REFUSALS.md each row has to be answered with its refusal. With --table it writes the table of commands anew. The status is 1
-where something is missing. It takes a second."""
+the two pages each row has to be answered with its refusal. With --table it writes the table of REFUSED.md anew, in which
+commands with the same rows share a line. The status is 1 where something is missing. It takes a second."""
 import os
 import re
 import sys
 
 TOP = os.path.dirname(os.path.dirname(os.path.dirname(os.path.abspath(__file__))))
 
-# what a command that writes a cell asks after InvalidColumn, by docs/COMMANDS.md below the table
-WRITES = ["MergedPart", "ArrayPart"]
-WRITERS = {"set_user_input", "update_cell_with_text", "update_cell_with_formula", "update_cell_with_bool", "update_cell_with_number"}
 
 # what the cells of the table refer to
 LIKEWISE = {
@@ -30,7 +28,7 @@ def asked(text):
     found, before = {}, []
     for line in text.splitlines():
         cells = [cell.strip() for cell in re.split(r"(?<!\\)\|", line)]
-        if not line.startswith("| `") or len(cells) < 6 or "→" in cells[1].split("`")[1] and cells[1].startswith("`error"):
+        if not line.startswith("| `") or len(cells) < 6:
             continue
         commands, last = re.findall(r"`([a-z_]+)", cells[1]), cells[4]
         names = re.findall(r"`([A-Z][a-z]+[A-Za-z]*)`", last)
@@ -44,9 +42,6 @@ def asked(text):
             own = names
             if "then `InvalidColumn` or `InvalidRow`" in last or last == "likewise" and before == ["InvalidSheet", "InvalidColumn", "InvalidRow"]:
                 own = ["InvalidSheet", "InvalidColumn" if "column" in command else "InvalidRow"]
-            if command in WRITERS:
-                at = own.index("InvalidColumn") + 1
-                own = own[:at] + WRITES + own[at:]
             found[command] = own
         before = names
     return found
@@ -78,13 +73,27 @@ def shown(rows):
     return lines, answers
 
 
+def table(tellings):
+    """The table of commands: a line for all commands with the same rows, in the order of docs/COMMANDS.md."""
+    groups = {}
+    for command, pairs in tellings.items():
+        said = "; ".join(f"`{words}` {refusal}" if words else refusal for words, refusal in pairs)
+        groups.setdefault(said, []).append(f"`{command}`")
+    for said, commands in groups.items():
+        print(f"| {', '.join(commands)} | {said} |")
+
+
 def told(text):
-    """The rows of the tables of docs/REFUSALS.md that name a row of cases, which stands last, in code, behind the refusal."""
+    """The rows of cases that docs/REFUSALS.md names, each with its refusal: the last table has the words of the commands' rows, the
+    one before it whole rows behind their refusals."""
     for line in text.splitlines():
         cells = [cell.strip() for cell in re.split(r"(?<!\\)\|", line)][1:-1]
-        if len(cells) >= 3 and cells[-1].startswith("`"):
-            refusal = cells[1] if cells[1].startswith("`") else cells[0]
-            yield re.split(r" {|\(", refusal.strip("`"))[0], cells[-1].strip("`")
+        if len(cells) == 4 and cells[-1].startswith("`"):
+            yield cells[1].strip("`"), cells[-1].strip("`")
+        elif len(cells) == 2 and cells[0].startswith("`"):
+            for command in re.findall(r"`([a-z_]+)`", cells[0]):
+                for words, refusal in re.findall(r"(?:`([^`]*)` )?([A-Z][A-Za-z]+)(?:; |$)", cells[1]):
+                    yield refusal, f"{command}→{words}" if words else command
 
 
 def main(words):
@@ -95,22 +104,25 @@ def main(words):
             rows += list(zip(questions.read().split("\n"), answers.read().split("\n")))
     lines, answers = shown(rows)
     count = wrong = 0
+    tellings = {}
     for command, refusals in asked(text_of("docs", "COMMANDS.md")).items():
         for refusal in refusals + ["BadLine"]:
             count += 1
             if (command, refusal) not in lines:
                 wrong += 1
                 print(f"no row: {command} refused with {refusal}")
-            elif "--table" in words and refusal != "BadLine":
+            elif refusal != "BadLine":
                 shown_line = lines[command, refusal].replace("\\t", "→").replace("|", "\\|")
-                print(f"| `{command}` | `{refusal}` | `{shown_line}` |")
+                tellings.setdefault(command, []).append((shown_line[len(command) + 1:], refusal))
+    if "--table" in words:
+        table(tellings)
     named = 0
-    for refusal, row in told(text_of("docs", "REFUSALS.md")):
+    for refusal, row in told(text_of("docs", "REFUSALS.md") + text_of("tests", "hostile", "REFUSED.md")):
         named += 1
         if refusal not in answers.get(row, ()):
             wrong += 1
-            print(f"docs/REFUSALS.md: {row} isn't answered with {refusal}, but with {answers.get(row, 'nothing: no such row')}")
-    print(f"{count} refusals of commands and {named} rows of docs/REFUSALS.md, {wrong} wrong")
+            print(f"{row} isn't answered with {refusal}, but with {answers.get(row, 'nothing: no such row')}")
+    print(f"{count} refusals of commands and {named} rows of the pages, {wrong} wrong")
     return 1 if wrong else 0
 
 

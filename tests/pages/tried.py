@@ -1,10 +1,11 @@
 #!/usr/bin/env python3
-"""Tries what docs/GUIDE.md says by example of the shared book and of records.
+"""Tries what docs/GUIDE.md says by example of the shared book, of records, of dumps and of the evaluator.
 
-  tests/pages/tried.py SHARE IMPORT    the two programs, ic_share_desk and ic_import_desk
+  tests/pages/tried.py SHARE IMPORT DUMP SUMS    the programs: ic_share_desk, ic_import_desk, ic_dump_desk and ic_sums_desk
 
-The lines of users with their replies, the bank's file with its sheet, each row of bytes with its records, and both gateways:
-the named pipe, and sockets, where socat is installed. It prints what comes out otherwise, and ends with 1 where something does."""
+The lines of users with their replies, the bank's file with its sheet, each row of bytes with its records, the dump of a book
+and of that dump, the values of formulas, and both gateways: the named pipe, and sockets, where socat is installed. It prints what comes out otherwise, and ends
+with 1 where something does."""
 import os
 import re
 import shutil
@@ -14,6 +15,7 @@ import tempfile
 import time
 
 GUIDE = os.path.join(os.path.dirname(os.path.realpath(__file__)), "../../docs/GUIDE.md")
+SAMPLE = os.path.join(os.path.dirname(os.path.realpath(__file__)), "../../sample.lines")
 wrong = 0
 
 
@@ -100,11 +102,26 @@ def try_records(program):
             same(given, sheet_of(records_of(told)), run(program, bytes_of(given)))
 
 
-if len(sys.argv) != 3:
+def try_dump(program):
+    lines, told = (it.replace("→", "\t") for it in blocks(section("A book as text"))[:2])
+    same("the dump of a book", told, run(program, lines))
+    same("the dump of a dump", told, run(program, told))
+
+
+def try_sums(program):
+    lines, values, of_sample = (it.replace("→", "\t") for it in blocks(section("A small evaluator")))
+    same("the evaluated lines", values, run(program, lines))
+    with open(SAMPLE, encoding="utf-8") as it:
+        same("the evaluated sample", of_sample, run(program, it.read()))
+
+
+if len(sys.argv) != 5:
     sys.exit(__doc__)
-share, imports = (os.path.realpath(it) for it in sys.argv[1:])
+share, imports, dump, sums = (os.path.realpath(it) for it in sys.argv[1:])
 try_users(share)
 try_gateways(share)
 try_records(imports)
+try_dump(dump)
+try_sums(sums)
 print("examples of the guide:", f"{wrong} wrong" if wrong else "all as told")
 sys.exit(wrong > 0)

@@ -17,6 +17,9 @@ import tempfile
 import time
 
 TOP = os.path.dirname(os.path.dirname(os.path.dirname(os.path.realpath(__file__))))
+# A shell that runs this in the background has these ignored, and what is ignored can't be trapped below.
+for it in (signal.SIGINT, signal.SIGQUIT, signal.SIGHUP):
+    signal.signal(it, signal.SIG_DFL)
 # Plays the toolchain: `rt version`, and `rt try -- WORDS`, which tells the words and the input, and ends as it is told to.
 RT = """#!/bin/bash
 if [ "$1" = version ]; then echo "played-kit logic 0123"; exit 0; fi
@@ -84,7 +87,8 @@ def found(what, faults):
 class Desk:
     def __init__(self, folder, built):
         self.top, self.played, self.temp, self.bin = (f"{folder}/{it}" for it in ("top", "played", "temp", "bin"))
-        for it in (f"{self.top}/crates/ic_desk/src", f"{self.top}/crates/ic_desk/specs", f"{self.top}/crates/ic_desk/proofs", self.played, self.temp, self.bin):
+        parts = [f"{self.top}/crates/{crate}/{part}" for crate in ("ic_desk", "ic_desk_all") for part in ("src", "specs", "proofs")]
+        for it in (*parts, self.played, self.temp, self.bin):
             os.makedirs(it)
         with open(f"{TOP}/desk", encoding="utf-8") as it:
             text = it.read()
@@ -95,6 +99,7 @@ class Desk:
         if built:
             time.sleep(0.02)
             self.write(f"{self.top}/crates/ic_desk/out/ic_desk", PROGRAM)
+            self.write(f"{self.top}/crates/ic_desk_all/out/ic_desk_all", PROGRAM.replace("program with", "all with"))
         self.env = {**os.environ, "PATH": f"{self.bin}:{os.environ['PATH']}", "PLAYED": self.played, "TMPDIR": self.temp}
 
     def write(self, name, text):
@@ -174,6 +179,10 @@ def words_of(desk, built):
         faults += [f"it said {err!r}"] * ((err != "") if built else (err.count("\n") != 1 or "2.5 GB" not in err))
         desk.began()
         found(f"{kind}: words {words}", faults + desk.left())
+        status, out, err = desk.run("--all", *words)
+        faults = [f"{status}, {out!r}"] * (status != 0 or out != wanted.replace("program", "all", 1).replace("in ic_desk", "in ic_desk_all", 1))
+        desk.began()
+        found(f"{kind}: --all and words {words}", faults + desk.left())
     for words in WRONG:
         status, out, err = desk.run(*words)
         faults = [f"{status}, {out!r}, {err!r}"] * (status != 1 or out != "" or "./desk make SEED COUNT" not in err)

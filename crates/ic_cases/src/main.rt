@@ -13,6 +13,7 @@
 
 mod books;
 mod broken;
+mod dumps;
 mod errors;
 mod formulas;
 mod handed_in;
@@ -49,6 +50,7 @@ fn call(row: &mut Row<'_>, books: &mut Books<'_>) {
     broken::call(row);
     streams::call(row);
     runs::call(row, books);
+    dumps::call(row);
     imports::call(row, books);
     books::call(row, books);
     pools::call(row, books);

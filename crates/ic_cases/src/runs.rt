@@ -4,6 +4,7 @@ use crate::raw::{bytes_in, put_text};
 use crate::row::Row;
 use ic_audit::audit_desk;
 use ic_book::Model;
+use ic_dump::dump_desk;
 use ic_import::import_desk;
 use ic_lines::{MemorySink, MemorySource, RunError, Sink, Source, SteadySink, SteadySource};
 use ic_run::{desk, run};
@@ -12,14 +13,14 @@ use jiff::Timestamp;
 
 /// `desk`, the program's words with `|` between two, the input, the most bytes of a read, the number of the read that
 /// fails, the room of the sink, and the number of the write that fails, 0 for none: the status, and what was written.
-/// `audit`, `share` and `import`, likewise of `audit_desk`, `share_desk` and `import_desk`.
+/// `audit`, `dump`, `share` and `import`, likewise of `audit_desk`, `dump_desk`, `share_desk` and `import_desk`.
 /// `run`, the same without words, on the book of the last `new_empty`: `ok` and the number of lines or the error, and
 /// what was written. `shared`, likewise of `share`. `steady`, the input and the room of the sink: a run on that book over a
 /// source and a sink that fail at no read and no write. The input of `share`, `import` and `shared` is bytes as `raw` says
 /// them.
 pub fn call(row: &mut Row<'_>, books: &mut Books<'_>) {
     match row.name {
-        "desk" | "audit" | "share" | "import" => {
+        "desk" | "audit" | "dump" | "share" | "import" => {
             let words = words_in(row, row.word(1));
             row.skip(2);
             with_input(row, books, words.as_slice());
@@ -117,6 +118,7 @@ fn put_answered(
     match row.name {
         "desk" => put_status(row, desk(alloc, words, tables, moment, source, sink)),
         "audit" => put_status(row, audit_desk(alloc, words, tables, moment, source, sink)),
+        "dump" => put_status(row, dump_desk(alloc, words, tables, moment, source, sink)),
         "share" => put_status(row, share_desk(alloc, words, tables, moment, source, sink)),
         "import" => put_status(row, import_desk(alloc, words, tables, moment, source, sink)),
         _ => match &mut books.book {

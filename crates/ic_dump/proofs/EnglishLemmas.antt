@@ -1,20 +1,18 @@
 -- English is there, and what is written in it.
-use Rattle.std.proofs.Common.{◌≡◌, ◌∷◌, ◌∙◌, ap, ℕ, List, None, codes, false, refl}
+use Rattle.std.proofs.Common.{◌≡◌, ◌∷◌, ◌∙◌, ap, ℤ, List, None, codes, false, refl}
 use Rattle.std.specs.Prelude.{is_none, is_some, Bool, Option, Some, true}
 use Rattle.ic_tables.specs.Tables.{IsWellFormed, TableSet, language_of, locale_of}
 use Rattle.ic_laws.specs.Refusal.{Refusal}
 use Rattle.ic_laws.specs.Character.{equals}
-use Rattle.ic_laws.specs.CoreBook.{CellPlace, CoreBook}
+use Rattle.ic_laws.specs.CoreBook.{CoreBook}
 use Rattle.ic_laws.specs.FormulaReading.{shown_formula}
 use Rattle.ic_laws.specs.declared.tree.Formula.{Formula}
-use Rattle.ic_machine.specs.Translation.{in_notation}
-use Rattle.ic_machine.specs.subjects.Reading.{formula_text}
 use Rattle.ic_book.proofs.WholeLemmas.{whole_core}
 use Rattle.ic_book.specs.Book.{Book, IsValidBook, NotationState, core_of, notations_in, whole_of}
 use Rattle.ic_dump.specs.English.{IsEnglish}
 use Rattle.ic_dump.specs.Lines.{english_formula, in_english}
 use Rattle.ic_book.specs.Refused.{TellsCore}
-use Rattle.ic_book.specs.Translated.{notation_refusal}
+use Rattle.ic_book.specs.Translated.{notation_refusal, shown_in}
 use Rattle.ic_book.specs.declared.error.BookError.{BookError}
 use Rattle.ic_tables.proofs.Lookups.{is_some-find}
 use Rattle.ic_tables.proofs.WellFormed.{has_english}
@@ -37,8 +35,8 @@ english_is_there tables h =
 pub refused_never : (book : Book) → IsValidBook book → (e : BookError) → ((told : Refusal) × TellsCore e (Some told) × (notation_refusal (codes "en") (codes "en") book.tables ≡ Some told)) → ⊥
 refused_never book valid e h = cc (h.2, english_is_there book.tables valid.whole.tables)
 
--- what is written in a notation that is English is written in English
-pub written_english : (book : Book) (target : NotationState) → IsEnglish book target → (place : CellPlace) (f : Formula) → formula_text (in_notation target.locale target.language (whole_of book)) place f ≡ english_formula (notations_in book) (core_of book) place f
-written_english book target e place f =
-    ap (λ (t : NotationState). formula_text (in_notation t.locale t.language (whole_of book)) place f) e
-    ∙ ap (λ (core : CoreBook). equals ∷ shown_formula (notations_in book) (in_english core) place.0 place.1 f) (whole_core book)
+-- what is shown in a notation that is English is written in English
+pub written_english : (book : Book) (target : NotationState) → IsEnglish book target → (row column : ℤ) (f : Formula) → equals ∷ shown_in target (whole_of book) row column f ≡ english_formula (notations_in book) (core_of book) (row, column) f
+written_english book target e row column f =
+    ap (λ (t : NotationState). equals ∷ shown_in t (whole_of book) row column f) e
+    ∙ ap (λ (core : CoreBook). equals ∷ shown_formula (notations_in book) (in_english core) row column f) (whole_core book)

@@ -35,4 +35,5 @@ pub mod StandingLemmas
 pub mod TakenLemmas
 pub mod TextsRead
 pub mod ToldLemmas
+pub mod TreesLemmas
 pub mod UnfoundLemmas

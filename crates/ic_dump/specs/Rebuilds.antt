@@ -1,15 +1,19 @@
 -- What the lines of a dump do: run from a new book in en, en and UTC, each is accepted in its turn, and what they leave is the
 -- same skeleton.
-use Rattle.std.specs.Prelude.{ℕ, List, IsNone}
+use Rattle.std.specs.Prelude.{◌≡◌, ℕ, List, IsNone, None}
 use Rattle.ic_laws.specs.CoreBook.{CoreBook}
 use Rattle.ic_tables.specs.Tables.{TableSet}
-use Rattle.ic_machine.specs.Book.{Book, core_of}
+use Rattle.ic_machine.specs.Book.{Book, core_of, notations_in}
 use Rattle.ic_machine.specs.Command.{commands}
 use Rattle.ic_machine.specs.Run.{after}
 use Rattle.ic_machine.specs.Step.{machine}
 use Rattle.ic_machine.specs.TranslationLaws.{AreAccepted, ErrorsEndPlain}
+use Rattle.ic_machine.specs.Valid.{IsValidBook}
 use Rattle.ic_run.specs.Desk.{start_refusal}
 use Rattle.ic_run.specs.Make.{made_setting, made_start}
+use Rattle.ic_dump.specs.Lines.{dump_lines}
+use Rattle.ic_dump.specs.Refused.{cause_of}
+use Rattle.ic_dump.specs.Stages.{HasFewNames}
 use Rattle.ic_dump.specs.Skeleton.{IsSameSkeleton}
 
 -- lines do so from a book
@@ -22,3 +26,7 @@ pub record RebuildsFrom (start : Book) (lines : List (List ℕ)) (book : CoreBoo
 abbrev pub Rebuilds : TableSet → List (List ℕ) → CoreBook → Type 0
 Rebuilds tables lines book =
     IsNone (start_refusal made_setting tables) → (created : List ℕ) → ErrorsEndPlain (made_start created tables) → RebuildsFrom (made_start created tables) lines book
+
+-- the lines of each valid book that has no cause, and names that are few, do so
+abbrev pub LinesRebuild : Type 0
+LinesRebuild = (book : Book) → IsValidBook book → cause_of (notations_in book) (core_of book) ≡ None → HasFewNames (core_of book) → Rebuilds book.tables (dump_lines (notations_in book) (core_of book)) (core_of book)

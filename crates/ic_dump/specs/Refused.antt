@@ -1,5 +1,6 @@
 -- Why a book has no such lines, and what the errors tell.
 use Rattle.std.specs.Prelude.{◌≡◌, ℕ, List, [], ◌∷◌, find, flat_map, length, Bool, true, false, ◌||◌, Option, Some, None, Result, Ok, Err, is_some, nat_eq, option_map, slice_get, if◌then◌else◌}
+use Rattle.std.specs.List.{list_any}
 use Rattle.std.specs.Option.{option_or}
 use Rattle.ic_laws.specs.CoreBook.{CellPlace, CoreBook, Definition, Sheet, spelling_of}
 use Rattle.ic_laws.specs.FormulaReading.{cell_tree}
@@ -10,6 +11,7 @@ use Rattle.ic_laws.specs.declared.tree.Formula.TheVariants as formulas
 use Rattle.ic_laws.specs.declared.tree.NameKey.{NameKey}
 use Rattle.ic_machine.specs.Refusal.{CellSite, Site}
 use Rattle.ic_book.specs.Sites.{site_of}
+use Rattle.ic_dump.specs.Passing.{formulas_in}
 use Rattle.ic_dump.specs.declared.error.DumpError.{DumpError}
 use Rattle.ic_dump.specs.declared.error.DumpError.TheVariants as errors
 
@@ -49,6 +51,10 @@ rereading n book = slice_get (rereading_cells n book) 0
 -- a raw body comes before any cell, and of each the first
 abbrev pub cause_of : Notations → CoreBook → Option Cause
 cause_of n book = option_or (option_map RawBody (raw_body book)) (option_map Rereads (rereading n book))
+
+-- where each formula of a book reads there is none
+abbrev pub TreesHaveLines : Type 0
+TreesHaveLines = (n : Notations) (book : CoreBook) → list_any is_raw (formulas_in book) ≡ false → cause_of n book ≡ None
 
 -- an answer tells the cause that there is; that memory ran out may come in place of any other answer
 abbrev pub Tells : {T : Type 0} → Result T DumpError → Option Cause → Type 0

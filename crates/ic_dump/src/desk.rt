@@ -1,9 +1,11 @@
 //! What the program does with its words.
 ghost use Rattle.std.specs.Prelude.{◌≡◌, ◌≢◌, ◌⊎◌, ◌↔◌, ◌+◌, ◌++◌, ◌<◌, ◌≤◌, ◌^◌, [], None, true, length, IsNone, IsSome, IsSomeAnd};
 ghost use Rattle.ic_lines.specs.Bytes.{AppendsFront, HasFault, IfTold};
+ghost use Rattle.ic_book.specs.Book.{core_of};
 ghost use Rattle.ic_book.specs.Whole.{whole_of};
 ghost use Rattle.ic_run.specs.Desk.{start_refusal};
 ghost use Rattle.ic_run.specs.Make.{made_setting};
+ghost use Rattle.ic_dump.specs.Refused.{raw_body};
 ghost use Rattle.ic_dump.specs.Told.{AppendsCannot, AppendsDump, AppendsToldFront, TellsCannot, TellsDump, told_cannot, told_lines, told_of};
 
 use crate::DumpError;
@@ -84,9 +86,10 @@ pub fn dump_desk<S: Source, K: Sink>(
     }
 }
 
-/// Writes the lines that rebuild a book. The status: 0, 4 where the sink had a fault, 6 where memory ran out before, 7 where a
-/// cell's text would read, and that is written.
+/// Writes the lines that rebuild a book, whose definitions have bodies that read, since no command makes another. The status: 0,
+/// 4 where the sink had a fault, 6 where memory ran out before, 7 where a cell's text would read, and that is written.
 fn tell<K: Sink>(alloc: Global, model: &Model<'_>, sink: &mut K) -> u8
+    requires { raw_body (core_of model.now.book) ≡ None }
     ensures dumped { result ≡ 0 → IfTold (K.written sink.old) (K.written sink.new)
         (TellsDump (whole_of model.now.book)) }
     ensures cannot { result ≡ 7 → IfTold (K.written sink.old) (K.written sink.new)
@@ -100,8 +103,7 @@ fn tell<K: Sink>(alloc: Global, model: &Model<'_>, sink: &mut K) -> u8
     match dump(alloc, model) {
         Ok(lines) => write_lines(alloc, &lines, sink),
         Err(DumpError::Rereads(_)) => written(sink, "cannot\tRereads\n".as_bytes(), 7),
-        // No command makes a body that doesn't read.
-        Err(DumpError::RawBody(_)) => 6,
+        Err(DumpError::RawBody(_)) => unreachable!(),
         Err(DumpError::OutOfMemory) => 6,
     }
 }

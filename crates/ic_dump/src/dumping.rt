@@ -1,10 +1,11 @@
 //! A book as command lines.
 ghost use Rattle.std.specs.Prelude.{◌≡◌, IfOk, None, OnOk, map};
 ghost use Rattle.ic_book.specs.Book.{IsValidBook, core_of, notations_in};
-ghost use Rattle.ic_book.specs.Workbook.{workbook_of, worksheet_of};
+ghost use Rattle.ic_book.specs.Workbook.{defined_name_of};
 ghost use Rattle.ic_dump.specs.English.{IsEnglish};
 ghost use Rattle.ic_dump.specs.Lines.{dump_lines};
 ghost use Rattle.ic_dump.specs.Rebuilds.{Rebuilds};
+ghost use Rattle.ic_dump.specs.Records.{core_seen};
 ghost use Rattle.ic_dump.specs.Refused.{Tells, cause_of, raw_body};
 ghost use Rattle.ic_dump.specs.Stages.{HasFewNames};
 
@@ -12,10 +13,11 @@ use crate::DumpError;
 use crate::english::english_of;
 use crate::formulas::push_cells;
 use crate::refused::{raw_body, rereading};
+use crate::sheets::{SheetSeen, sheets_seen};
 use crate::stages::{push_bodies, push_defining, push_deleting, push_inserting, push_naming};
 use crate::standing::standing_sheets;
 use ic_book::{Model, Notation};
-use ic_cells::{Workbook, Worksheet};
+use ic_cells::DefinedName;
 use ic_laws::OutOfMemory;
 use ic_lines::Line;
 use std::alloc::Global;
@@ -35,15 +37,15 @@ pub fn dump(alloc: Global, model: &Model<'_>) -> Result<Vec<Line>, DumpError>
     ensures rebuilds { IfOk result (λ lines.
         Rebuilds model.now.book.tables lines.items (core_of model.now.book)) }
 {
-    let Ok(workbook) = model.workbook() else {
-        return Err(DumpError::OutOfMemory);
-    };
     let english = english_of(model);
-    refuse(alloc, model, &english, &workbook)?;
-    match lines_of(alloc, model, &english, &workbook) {
-        Ok(lines) => Ok(lines),
-        Err(OutOfMemory) => Err(DumpError::OutOfMemory),
-    }
+    let names = model.sheet_names()?;
+    let definitions = model.defined_names()?;
+    let definitions = definitions.as_slice();
+    let sheets = sheets_seen(alloc, model, names.as_slice())?;
+    let sheets = sheets.as_slice();
+    refuse(alloc, model, &english, sheets, definitions)?;
+    let lines = lines_of(alloc, model, &english, sheets, definitions)?;
+    Ok(lines)
 }
 
 /// Refuses a book that has no lines.
@@ -51,17 +53,18 @@ fn refuse(
     alloc: Global,
     model: &Model<'_>,
     english: &Notation<'_>,
-    workbook: &Workbook,
+    sheets: &[SheetSeen<'_>],
+    definitions: &[DefinedName],
 ) -> Result<(), DumpError>
     requires english { IsEnglish model.now.book english.now }
-    requires records { workbook.now ≡ workbook_of model.now.book }
-    requires valid { IsValidBook model.now.book }
+    requires sheets { map core_seen sheets.now ≡ (core_of model.now.book).sheets }
+    requires definitions { definitions.now
+        ≡ map (defined_name_of model.now.book) model.now.book.definitions }
     ensures { Tells result (cause_of (notations_in model.now.book) (core_of model.now.book)) }
 {
-    match raw_body(alloc, model, workbook.defined_names.as_slice()) {
-        Ok(None) => refuse_cells(alloc, model, english, workbook.worksheets.as_slice()),
-        Ok(Some(key)) => Err(DumpError::RawBody(key)),
-        Err(OutOfMemory) => Err(DumpError::OutOfMemory),
+    match raw_body(alloc, model, definitions)? {
+        None => refuse_cells(alloc, model, english, sheets),
+        Some(key) => Err(DumpError::RawBody(key)),
     }
 }
 
@@ -70,19 +73,16 @@ fn refuse_cells(
     alloc: Global,
     model: &Model<'_>,
     english: &Notation<'_>,
-    worksheets: &[Worksheet],
+    sheets: &[SheetSeen<'_>],
 ) -> Result<(), DumpError>
     requires english { IsEnglish model.now.book english.now }
-    requires worksheets { worksheets.now ≡ map (worksheet_of model.now.book)
-        model.now.book.sheets }
-    requires valid { IsValidBook model.now.book }
+    requires sheets { map core_seen sheets.now ≡ (core_of model.now.book).sheets }
     requires none { raw_body (core_of model.now.book) ≡ None }
     ensures { Tells result (cause_of (notations_in model.now.book) (core_of model.now.book)) }
 {
-    match rereading(alloc, model, english, worksheets) {
-        Ok(None) => Ok(()),
-        Ok(Some(site)) => Err(DumpError::Rereads(site)),
-        Err(OutOfMemory) => Err(DumpError::OutOfMemory),
+    match rereading(alloc, model, english, sheets)? {
+        None => Ok(()),
+        Some(site) => Err(DumpError::Rereads(site)),
     }
 }
 
@@ -91,11 +91,13 @@ fn lines_of(
     alloc: Global,
     model: &Model<'_>,
     english: &Notation<'_>,
-    workbook: &Workbook,
+    sheets: &[SheetSeen<'_>],
+    definitions: &[DefinedName],
 ) -> Result<Vec<Line>, OutOfMemory>
     requires english { IsEnglish model.now.book english.now }
-    requires records { workbook.now ≡ workbook_of model.now.book }
-    requires valid { IsValidBook model.now.book }
+    requires sheets { map core_seen sheets.now ≡ (core_of model.now.book).sheets }
+    requires definitions { definitions.now
+        ≡ map (defined_name_of model.now.book) model.now.book.definitions }
     requires none { cause_of (notations_in model.now.book) (core_of model.now.book) ≡ None }
     ensures lines { IfOk result (λ lines. lines.items
         ≡ dump_lines (notations_in model.now.book) (core_of model.now.book)) }
@@ -103,16 +105,14 @@ fn lines_of(
     // What the law on these lines asks of the names.
     ensures few { OnOk result (HasFewNames (core_of model.now.book)) }
 {
-    let worksheets = workbook.worksheets.as_slice();
-    let definitions = workbook.defined_names.as_slice();
-    let standing = standing_sheets(alloc, model, workbook)?;
-    let sheets = standing.sheets.as_slice();
+    let standing = standing_sheets(alloc, model, sheets, definitions)?;
+    let all = standing.sheets.as_slice();
     let mut lines = Vec::new(alloc);
-    push_naming(alloc, &mut lines, sheets)?;
-    push_inserting(alloc, &mut lines, sheets)?;
+    push_naming(alloc, &mut lines, all)?;
+    push_inserting(alloc, &mut lines, all)?;
     push_defining(alloc, &mut lines, &standing, definitions)?;
     push_bodies(alloc, &mut lines, &standing, definitions)?;
-    push_deleting(alloc, &mut lines, worksheets.len(), sheets.len())?;
-    push_cells(alloc, &mut lines, model, english, worksheets)?;
+    push_deleting(alloc, &mut lines, sheets.len(), all.len())?;
+    push_cells(alloc, &mut lines, model, english, sheets)?;
     Ok(lines)
 }

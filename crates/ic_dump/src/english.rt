@@ -8,10 +8,9 @@ ghost use Rattle.ic_dump.specs.English.{IsEnglish};
 ghost use Rattle.ic_dump.specs.Lines.{english_formula};
 ghost use Rattle.ic_dump.specs.Refused.{is_read};
 
-use ic_book::{Model, Notation, OwnText};
+use ic_book::{Model, Notation};
 use ic_laws::scan::{is_nothing, push_char, push_text};
 use ic_laws::{Dialect, Formula, OutOfMemory};
-use ic_pool::copy_formula;
 use ic_tree::{Shown, read};
 use std::alloc::Global;
 
@@ -28,7 +27,6 @@ pub(crate) fn english_of<'a>(model: &Model<'a>) -> Notation<'a>
 
 /// `=` and a formula in English, as it is written in the cell at a row and a column. Only memory can be missing.
 pub(crate) fn english_formula(
-    alloc: Global,
     model: &Model<'_>,
     english: &Notation<'_>,
     row: i32,
@@ -39,13 +37,7 @@ pub(crate) fn english_formula(
     ensures { IfOk result (λ text. chars (string_bytes text) ≡ english_formula
         (notations_in model.now.book) (core_of model.now.book) (row, column) formula.now) }
 {
-    let formula = copy_formula(alloc, formula)?;
-    let own = OwnText::Formula {
-        row,
-        column,
-        formula,
-    };
-    model.own_text(&own, english)
+    model.formula_text(row, column, formula, english)
 }
 
 /// Whether a text that is written after `=` into the cell at a row and a column, in English, isn't kept as it is: nothing

@@ -1,7 +1,7 @@
 //! Why a book has no lines.
 
 use ic_book::MentionSite;
-use ic_laws::NameKey;
+use ic_laws::{NameKey, OutOfMemory};
 use std::fmt;
 use thiserror::Error;
 
@@ -26,5 +26,16 @@ impl fmt::Debug for DumpError {
             Self::Rereads(site) => write!(f, "Rereads {site:?}"),
             Self::OutOfMemory => write!(f, "OutOfMemory"),
         }
+    }
+}
+
+impl From<OutOfMemory> for DumpError {
+    ghost use Rattle.std.specs.Prelude.{◌≡◌};
+    ghost use Rattle.ic_dump.specs.declared.error.DumpError.TheVariants as errors;
+
+    ghost from_gives = { λ _ e. e ≡ errors.OutOfMemory };
+
+    fn from(_: OutOfMemory) -> DumpError {
+        DumpError::OutOfMemory
     }
 }

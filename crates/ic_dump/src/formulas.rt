@@ -1,19 +1,16 @@
 //! The lines that write the formulas of cells.
-ghost use Rattle.std.specs.Prelude.{◌≡◌, ◌++◌, ℕ, IfOk, OnOk, Some, chars, map, option_map};
+ghost use Rattle.std.specs.Prelude.{◌≡◌, ◌++◌, ℕ, IfOk, OnOk, chars, map};
 ghost use Rattle.std.specs.Fmt.{decimal};
-ghost use Rattle.std.specs.List.{slice_get};
-ghost use Rattle.ic_sheets.specs.Sheet.{Sheet, sheet_core};
-ghost use Rattle.ic_book.specs.Book.{IsValidBook, core_of, notations_in};
-ghost use Rattle.ic_book.specs.Workbook.{worksheet_of};
+ghost use Rattle.ic_book.specs.Book.{core_of, notations_in};
+ghost use Rattle.ic_book.specs.Lent.{placed};
 ghost use Rattle.ic_dump.specs.English.{IsEnglish};
-ghost use Rattle.ic_dump.specs.Lines.{cell_line, cell_lines, english_formula, lines_of_cells};
-ghost use Rattle.ic_dump.specs.Records.{cell_seen};
+ghost use Rattle.ic_dump.specs.Lines.{cell_line, cell_lines_from, english_formula, lines_of_cells};
+ghost use Rattle.ic_dump.specs.Records.{core_seen};
 
-use crate::cells::{Placed, cells_in};
 use crate::english::english_formula;
 use crate::lines::{digits_of, line_of, signed_digits_of};
-use ic_book::{Model, Notation};
-use ic_cells::Worksheet;
+use crate::sheets::SheetSeen;
+use ic_book::{Model, Notation, PlacedFormula};
 use ic_laws::OutOfMemory;
 use ic_lines::Line;
 use std::alloc::Global;
@@ -24,48 +21,35 @@ pub(crate) fn push_cells(
     lines: &mut Vec<Line>,
     model: &Model<'_>,
     english: &Notation<'_>,
-    worksheets: &[Worksheet],
+    sheets: &[SheetSeen<'_>],
 ) -> Result<(), OutOfMemory>
-    requires english { IsEnglish model.now.book english.now }
-    requires worksheets { worksheets.now ≡ map (worksheet_of model.now.book)
-        model.now.book.sheets }
-    requires valid { IsValidBook model.now.book }
+    requires { IsEnglish model.now.book english.now }
     ensures { OnOk result (lines.new.items ≡ lines.old.items
-        ++ cell_lines (notations_in model.now.book) (core_of model.now.book)) }
+        ++ cell_lines_from (notations_in model.now.book) (core_of model.now.book) 0
+        (map core_seen sheets.now)) }
 {
-    for (index, worksheet) in worksheets.iter().enumerate() {
-        push_cells_of(alloc, lines, model, english, index as u32, worksheet)?;
+    for (index, sheet) in sheets.iter().enumerate() {
+        push_cells_of(alloc, lines, model, english, index, sheet)?;
     }
     Ok(())
 }
 
-/// Those of a sheet.
+/// Those of the sheet at an index.
 fn push_cells_of(
     alloc: Global,
     lines: &mut Vec<Line>,
     model: &Model<'_>,
     english: &Notation<'_>,
-    sheet: u32,
-    worksheet: &Worksheet,
+    index: usize,
+    sheet: &SheetSeen<'_>,
 ) -> Result<(), OutOfMemory>
-    requires english { IsEnglish model.now.book english.now }
-    requires sheet { option_map (worksheet_of model.now.book)
-        (slice_get model.now.book.sheets sheet) ≡ Some worksheet.now }
-    requires valid { IsValidBook model.now.book }
-    ensures { (s : Sheet) → slice_get model.now.book.sheets sheet ≡ Some s → OnOk result
-        (lines.new.items ≡ lines.old.items ++ lines_of_cells
-        (notations_in model.now.book) (core_of model.now.book) sheet (sheet_core s).cells) }
+    requires { IsEnglish model.now.book english.now }
+    ensures { OnOk result (lines.new.items ≡ lines.old.items ++ lines_of_cells
+        (notations_in model.now.book) (core_of model.now.book) index (core_seen sheet.now).cells) }
 {
-    let cells = cells_in(alloc, model, sheet, worksheet)?;
-    let index = digits_of(alloc, sheet as u64)?;
-    push_each(
-        alloc,
-        lines,
-        model,
-        english,
-        index.as_str(),
-        cells.as_slice(),
-    )
+    let digits = digits_of(alloc, index as u64)?;
+    let cells = sheet.cells.as_slice();
+    push_each(alloc, lines, model, english, digits.as_str(), cells)
 }
 
 /// Those of these cells of the sheet at an index, of which these are the digits.
@@ -75,12 +59,12 @@ fn push_each(
     model: &Model<'_>,
     english: &Notation<'_>,
     sheet: &str,
-    cells: &[Placed<'_>],
+    cells: &[PlacedFormula<'_>],
 ) -> Result<(), OutOfMemory>
     requires { IsEnglish model.now.book english.now }
     ensures { (index : ℕ) → chars sheet.now ≡ decimal index → OnOk result
         (lines.new.items ≡ lines.old.items ++ lines_of_cells (notations_in model.now.book)
-        (core_of model.now.book) index (map cell_seen cells.now)) }
+        (core_of model.now.book) index (map placed cells.now)) }
 {
     for cell in cells {
         lines.push(line_of_cell(alloc, model, english, sheet, cell)?)?;
@@ -94,15 +78,15 @@ fn line_of_cell(
     model: &Model<'_>,
     english: &Notation<'_>,
     sheet: &str,
-    cell: &Placed<'_>,
+    cell: &PlacedFormula<'_>,
 ) -> Result<Line, OutOfMemory>
     requires { IsEnglish model.now.book english.now }
     ensures { (index : ℕ) → chars sheet.now ≡ decimal index → IfOk result (λ line. line
-        ≡ cell_line index (cell_seen cell.now).0 (english_formula
+        ≡ cell_line index (placed cell.now).0 (english_formula
         (notations_in model.now.book) (core_of model.now.book)
-        (cell_seen cell.now).0 (cell_seen cell.now).1)) }
+        (placed cell.now).0 (placed cell.now).1)) }
 {
-    let text = english_formula(alloc, model, english, cell.row, cell.column, cell.formula)?;
+    let text = english_formula(model, english, cell.row, cell.column, cell.formula)?;
     cell_line(alloc, sheet, cell.row, cell.column, text.as_str())
 }
 

@@ -2,20 +2,21 @@
 //!
 //! `dump` tells the lines that rebuild the sheets of a book with their ids, its definitions and its formulas from a new book in
 //! en, en and UTC. `specs/Lines` says which lines these are, stage by stage, `specs/Refused` which books have none, and
-//! `specs/Rebuilds` what the lines do. `dump_desk` writes them for the book that the lines of a source leave, and is what the
+//! `specs/Rebuilds` what the lines do; `law_lines_rebuild` and `law_trees_have_lines` say so of every book. `dump_desk` writes them for the book that the lines of a source leave, and is what the
 //! program does with its words.
 #![tactic(auto)]
 
-mod cells;
 mod desk;
 mod dumping;
 mod english;
 mod error;
 mod formulas;
+mod law;
 mod lines;
 mod passing;
 mod refused;
 mod scopes;
+mod sheets;
 mod stages;
 mod standing;
 mod taken;
@@ -28,3 +29,4 @@ pub use error::DumpError;
 pub use ic_book::MentionSite;
 pub use ic_laws::NameKey;
 pub use ic_lines::Line;
+pub use law::{law_lines_rebuild, law_trees_have_lines};

@@ -24,13 +24,22 @@ fn joined(alloc: Global, texts: &[&str]) -> Result<String, OutOfMemory>
     ensures { IfOk result (λ text. chars (string_bytes text)
         ≡ line_of (map (λ t. chars t.now) texts.now)) }
 {
-    let mut text = String::new(alloc);
+    let mut text = String::with_capacity(alloc, room_for(texts))?;
     let Some((first, others)) = texts.split_first() else {
         return Ok(text);
     };
     push_escaped(&mut text, first)?;
     push_others(&mut text, others)?;
     Ok(text)
+}
+
+/// The bytes that they take, with one behind each.
+fn room_for(texts: &[&str]) -> usize {
+    let mut room: usize = 0;
+    for text in texts {
+        room = room.saturating_add(text.len()).saturating_add(1);
+    }
+    room
 }
 
 /// Appends the words that spell these texts, each after a tab.

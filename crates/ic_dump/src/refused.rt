@@ -1,22 +1,23 @@
 //! Why a book has no lines.
-ghost use Rattle.std.specs.Prelude.{◌≡◌, IfOk, Some, false, flat_map, map, option_map};
+ghost use Rattle.std.specs.Prelude.{◌≡◌, IfOk, false, flat_map, map, option_map};
 ghost use Rattle.std.specs.List.{slice_get};
 ghost use Rattle.std.specs.Option.{option_map_or};
 ghost use Rattle.ic_laws.specs.Scene.{key_of};
 ghost use Rattle.ic_machine.specs.Refusal.{CellSite};
-ghost use Rattle.ic_sheets.specs.Sheet.{Sheet, sheet_core};
-ghost use Rattle.ic_book.specs.Book.{IsValidBook, core_of, notations_in};
+ghost use Rattle.ic_laws.specs.CoreBook.{Sheet};
+ghost use Rattle.ic_book.specs.Book.{core_of, notations_in};
+ghost use Rattle.ic_book.specs.Lent.{placed};
 ghost use Rattle.ic_book.specs.Sites.{site_of};
-ghost use Rattle.ic_book.specs.Workbook.{defined_name_of, worksheet_of};
+ghost use Rattle.ic_book.specs.Workbook.{defined_name_of};
 ghost use Rattle.ic_dump.specs.English.{IsEnglish};
-ghost use Rattle.ic_dump.specs.Records.{cell_seen, name_seen};
-ghost use Rattle.ic_dump.specs.Refused.{is_raw, raw_body, rereading, rereading_cell, rereads};
+ghost use Rattle.ic_dump.specs.Records.{core_seen, name_seen};
+ghost use Rattle.ic_dump.specs.Refused.{is_raw, raw_body, rereading_cell, rereads};
 
-use crate::cells::{Placed, cells_in};
 use crate::english::is_read;
+use crate::sheets::SheetSeen;
 use caseless::default_case_fold_str;
-use ic_book::{MentionSite, Model, Notation};
-use ic_cells::{DefinedName, Worksheet};
+use ic_book::{MentionSite, Model, Notation, PlacedFormula};
+use ic_cells::DefinedName;
 use ic_laws::{Formula, NameKey, OutOfMemory, Text};
 use std::alloc::Global;
 
@@ -66,41 +67,20 @@ pub(crate) fn rereading(
     alloc: Global,
     model: &Model<'_>,
     english: &Notation<'_>,
-    worksheets: &[Worksheet],
+    sheets: &[SheetSeen<'_>],
 ) -> Result<Option<MentionSite>, OutOfMemory>
-    requires english { IsEnglish model.now.book english.now }
-    requires worksheets { worksheets.now ≡ map (worksheet_of model.now.book)
-        model.now.book.sheets }
-    requires valid { IsValidBook model.now.book }
-    ensures { IfOk result (λ site. option_map site_of site
-        ≡ rereading (notations_in model.now.book) (core_of model.now.book)) }
+    requires { IsEnglish model.now.book english.now }
+    ensures { IfOk result (λ site. option_map site_of site ≡ slice_get (flat_map
+        (λ (s : Sheet). flat_map (rereading_cell (notations_in model.now.book) s.id) s.cells)
+        (map core_seen sheets.now)) 0) }
 {
-    for (index, worksheet) in worksheets.iter().enumerate() {
-        if let Some(site) = rereading_in(alloc, model, english, index as u32, worksheet)? {
+    for sheet in sheets {
+        let cells = sheet.cells.as_slice();
+        if let Some(site) = rereading_among(alloc, model, english, sheet.name.id, cells)? {
             return Ok(Some(site));
         }
     }
     Ok(None)
-}
-
-/// The first such cell of a sheet.
-fn rereading_in(
-    alloc: Global,
-    model: &Model<'_>,
-    english: &Notation<'_>,
-    sheet: u32,
-    worksheet: &Worksheet,
-) -> Result<Option<MentionSite>, OutOfMemory>
-    requires english { IsEnglish model.now.book english.now }
-    requires sheet { option_map (worksheet_of model.now.book)
-        (slice_get model.now.book.sheets sheet) ≡ Some worksheet.now }
-    requires valid { IsValidBook model.now.book }
-    ensures { (s : Sheet) → slice_get model.now.book.sheets sheet ≡ Some s → IfOk result
-        (λ site. option_map site_of site ≡ slice_get (flat_map
-        (rereading_cell (notations_in model.now.book) s.id) (sheet_core s).cells) 0) }
-{
-    let cells = cells_in(alloc, model, sheet, worksheet)?;
-    rereading_among(alloc, model, english, worksheet.sheet_id, cells.as_slice())
 }
 
 /// The first of these cells of the sheet with this id.
@@ -109,11 +89,11 @@ fn rereading_among(
     model: &Model<'_>,
     english: &Notation<'_>,
     id: u32,
-    cells: &[Placed<'_>],
+    cells: &[PlacedFormula<'_>],
 ) -> Result<Option<MentionSite>, OutOfMemory>
     requires { IsEnglish model.now.book english.now }
     ensures { IfOk result (λ site. option_map site_of site ≡ slice_get (flat_map
-        (rereading_cell (notations_in model.now.book) id) (map cell_seen cells.now)) 0) }
+        (rereading_cell (notations_in model.now.book) id) (map placed cells.now)) 0) }
 {
     for cell in cells {
         if rereads(alloc, model, english, cell)? {
@@ -124,8 +104,8 @@ fn rereading_among(
 }
 
 /// Where it stands, in the sheet with this id.
-fn cell_site(id: u32, cell: &Placed<'_>) -> MentionSite
-    ensures { site_of result ≡ CellSite id (cell_seen cell.now).0 }
+fn cell_site(id: u32, cell: &PlacedFormula<'_>) -> MentionSite
+    ensures { site_of result ≡ CellSite id (placed cell.now).0 }
 {
     MentionSite::Cell {
         sheet_id: id,
@@ -139,11 +119,11 @@ fn rereads(
     alloc: Global,
     model: &Model<'_>,
     english: &Notation<'_>,
-    cell: &Placed<'_>,
+    cell: &PlacedFormula<'_>,
 ) -> Result<bool, OutOfMemory>
     requires { IsEnglish model.now.book english.now }
     ensures { IfOk result (λ is. is ≡ rereads (notations_in model.now.book)
-        (cell_seen cell.now).0 (cell_seen cell.now).1) }
+        (placed cell.now).0 (placed cell.now).1) }
 {
     match cell.formula {
         Formula::Raw(text) => is_read(alloc, english, cell.row, cell.column, text.as_str()),

@@ -6,7 +6,8 @@ ghost use Rattle.std.specs.Ordering.{nat_cmp};
 ghost use Rattle.ic_dump.specs.Passing.{other_ids};
 ghost use Rattle.ic_dump.specs.Records.{AreOthers, FindsIds};
 
-use ic_cells::{DefinedName, Worksheet};
+use crate::sheets::SheetSeen;
+use ic_cells::DefinedName;
 use ic_laws::OutOfMemory;
 use std::alloc::Global;
 use std::collections::BTreeSet;
@@ -17,13 +18,13 @@ const FIRST_ID: u32 = 1;
 /// The ids that definitions are local to and no sheet has, each once, and 1 where nothing has it.
 pub(crate) fn passing_ids(
     alloc: Global,
-    worksheets: &[Worksheet],
+    sheets: &[SheetSeen<'_>],
     definitions: &[DefinedName],
 ) -> Result<Vec<u32>, OutOfMemory>
-    ensures { IfOk result (λ ids. ids.items ≡ other_ids (map (λ w. w.sheet_id) worksheets.now)
+    ensures { IfOk result (λ ids. ids.items ≡ other_ids (map (λ s. s.name.now.id) sheets.now)
         (flat_map (λ d. option_to_list d.sheet_id) definitions.now ++ 1 ∷ [])) }
 {
-    let mut seen = own_ids(alloc, worksheets)?;
+    let mut seen = own_ids(alloc, sheets)?;
     let mut ids = Vec::new(alloc);
     for definition in definitions {
         push_scope(&mut ids, &mut seen, definition.sheet_id)?;
@@ -33,12 +34,12 @@ pub(crate) fn passing_ids(
 }
 
 /// The ids of these sheets.
-fn own_ids(alloc: Global, worksheets: &[Worksheet]) -> Result<BTreeSet<u32>, OutOfMemory>
-    ensures { IfOk result (λ seen. FindsIds seen (map (λ w. w.sheet_id) worksheets.now)) }
+fn own_ids(alloc: Global, sheets: &[SheetSeen<'_>]) -> Result<BTreeSet<u32>, OutOfMemory>
+    ensures { IfOk result (λ seen. FindsIds seen (map (λ s. s.name.now.id) sheets.now)) }
 {
     let mut seen = BTreeSet::new(alloc);
-    for worksheet in worksheets {
-        seen.insert(worksheet.sheet_id)?;
+    for sheet in sheets {
+        seen.insert(sheet.name.id)?;
     }
     Ok(seen)
 }

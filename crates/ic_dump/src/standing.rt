@@ -4,17 +4,18 @@ ghost use Rattle.std.specs.BTreeMap.{get};
 ghost use Rattle.std.specs.List.{slice_get};
 ghost use Rattle.std.specs.Option.{option_copied, option_or, option_to_list};
 ghost use Rattle.std.specs.Ordering.{nat_cmp};
-ghost use Rattle.ic_book.specs.Book.{IsValidBook, core_of};
-ghost use Rattle.ic_book.specs.Workbook.{workbook_of};
+ghost use Rattle.ic_book.specs.Book.{core_of};
+ghost use Rattle.ic_book.specs.Workbook.{defined_name_of};
 ghost use Rattle.ic_dump.specs.Passing.{sheet_named, standing_sheets};
-ghost use Rattle.ic_dump.specs.Records.{AreFound, sheet_seen};
+ghost use Rattle.ic_dump.specs.Records.{AreFound, core_seen};
 ghost use Rattle.ic_dump.specs.Stages.{HasFewNames};
 
 use crate::passing::free_numerals;
 use crate::scopes::passing_ids;
+use crate::sheets::SheetSeen;
 use crate::taken::taken_names;
 use ic_book::Model;
-use ic_cells::{Workbook, Worksheet};
+use ic_cells::DefinedName;
 use ic_laws::{OutOfMemory, SheetName, Text};
 use std::alloc::Global;
 use std::collections::BTreeMap;
@@ -26,14 +27,16 @@ pub(crate) struct Standing {
     pub(crate) indexes: BTreeMap<u32, usize>,
 }
 
-/// The sheets of a book, given its records, and then the passing ones. Only memory can be missing.
+/// The sheets of a book, given these and its definitions, and then the passing ones. Only memory can be missing.
 pub(crate) fn standing_sheets(
     alloc: Global,
     model: &Model<'_>,
-    workbook: &Workbook,
+    sheets: &[SheetSeen<'_>],
+    definitions: &[DefinedName],
 ) -> Result<Standing, OutOfMemory>
-    requires records { workbook.now ≡ workbook_of model.now.book }
-    requires valid { IsValidBook model.now.book }
+    requires sheets { map core_seen sheets.now ≡ (core_of model.now.book).sheets }
+    requires definitions { definitions.now
+        ≡ map (defined_name_of model.now.book) model.now.book.definitions }
     ensures sheets { IfOk result (λ standing. standing.sheets.items
         ≡ standing_sheets (core_of model.now.book)) }
     ensures found { IfOk result (λ standing.
@@ -42,22 +45,21 @@ pub(crate) fn standing_sheets(
     // What the law on these lines asks of the names.
     ensures few { OnOk result (HasFewNames (core_of model.now.book)) }
 {
-    let worksheets = workbook.worksheets.as_slice();
-    let ids = passing_ids(alloc, worksheets, workbook.defined_names.as_slice())?;
-    let mut standing = own_sheets(alloc, worksheets)?;
+    let ids = passing_ids(alloc, sheets, definitions)?;
+    let mut standing = own_sheets(alloc, sheets)?;
     if ids.is_empty() {
         return Ok(standing);
     }
-    let taken = taken_names(alloc, model, workbook)?;
+    let taken = taken_names(alloc, model, sheets, definitions.len())?;
     let names = free_numerals(alloc, ids.len(), taken.as_slice())?;
     push_named(alloc, &mut standing, ids.as_slice(), names.as_slice())?;
     Ok(standing)
 }
 
 /// The sheets of a book.
-fn own_sheets(alloc: Global, worksheets: &[Worksheet]) -> Result<Standing, OutOfMemory>
+fn own_sheets(alloc: Global, sheets: &[SheetSeen<'_>]) -> Result<Standing, OutOfMemory>
     ensures sheets { IfOk result (λ standing.
-        standing.sheets.items ≡ map sheet_seen worksheets.now) }
+        standing.sheets.items ≡ map (λ s. s.name.now) sheets.now) }
     ensures found { IfOk result (λ standing.
         AreFound standing.indexes standing.sheets.items) }
 {
@@ -65,8 +67,8 @@ fn own_sheets(alloc: Global, worksheets: &[Worksheet]) -> Result<Standing, OutOf
         sheets: Vec::new(alloc),
         indexes: BTreeMap::new(alloc),
     };
-    for worksheet in worksheets {
-        push_sheet(alloc, &mut standing, worksheet.sheet_id, &worksheet.name)?;
+    for sheet in sheets {
+        push_sheet(alloc, &mut standing, sheet.name.id, &sheet.name.name)?;
     }
     Ok(standing)
 }

@@ -1,95 +1,72 @@
 //! The names that a passing sheet can't have.
-ghost use Rattle.std.specs.Prelude.{◌≡◌, ◌≤◌, ◌++◌, IfOk, OnOk, Some, flat_map, length, map, option_map};
+ghost use Rattle.std.specs.Prelude.{◌≡◌, ◌≤◌, ◌++◌, IfOk, OnOk, flat_map, length, map, option_map};
 ghost use Rattle.std.specs.List.{slice_get};
 ghost use Rattle.std.specs.Option.{option_to_list};
-ghost use Rattle.ic_sheets.specs.Sheet.{Sheet, sheet_core};
-ghost use Rattle.ic_book.specs.Book.{IsValidBook, core_of};
-ghost use Rattle.ic_book.specs.Workbook.{workbook_of, worksheet_of};
+ghost use Rattle.ic_book.specs.Book.{core_of};
+ghost use Rattle.ic_book.specs.Lent.{placed};
 ghost use Rattle.ic_dump.specs.Passing.{taken_names, unfound_of};
-ghost use Rattle.ic_dump.specs.Records.{cell_seen};
+ghost use Rattle.ic_dump.specs.Records.{core_seen};
 
-use crate::cells::{Placed, cells_in};
+use crate::sheets::SheetSeen;
 use crate::unfound::{Names, push_unfound_of};
-use ic_book::Model;
-use ic_cells::{Workbook, Worksheet};
+use ic_book::{Model, PlacedFormula};
 use ic_laws::OutOfMemory;
 use std::alloc::Global;
 
-/// The names of a book's sheets, given its records, and those of sheets that formulas name and that weren't found. Only memory
-/// can be missing.
+/// The names of a book's sheets, given these and the number of its definitions, and those of sheets that formulas name and that
+/// weren't found. Only memory can be missing.
 pub(crate) fn taken_names<'b>(
     alloc: Global,
     model: &'b Model<'_>,
-    workbook: &'b Workbook,
+    sheets: &'b [SheetSeen<'b>],
+    count: usize,
 ) -> Result<Names<'b>, OutOfMemory>
-    requires records { workbook.now ≡ workbook_of model.now.book }
-    requires valid { IsValidBook model.now.book }
+    requires sheets { map core_seen sheets.now ≡ (core_of model.now.book).sheets }
+    requires definitions { length model.now.book.definitions ≤ count }
     ensures { IfOk result (λ names. map (λ name. name.now) names.items
         ≡ taken_names (core_of model.now.book)) }
 {
     let mut names = Vec::new(alloc);
-    let worksheets = workbook.worksheets.as_slice();
-    push_own(&mut names, worksheets)?;
-    push_unfound_in(alloc, &mut names, model, worksheets)?;
-    push_unfound_by(&mut names, model, workbook.defined_names.len())?;
+    push_own(&mut names, sheets)?;
+    push_unfound_in(&mut names, sheets)?;
+    push_unfound_by(&mut names, model, count)?;
     Ok(names)
 }
 
 /// Puts the names of these sheets at the end.
-fn push_own<'b>(names: &mut Names<'b>, worksheets: &'b [Worksheet]) -> Result<(), OutOfMemory>
+fn push_own<'b>(names: &mut Names<'b>, sheets: &'b [SheetSeen<'b>]) -> Result<(), OutOfMemory>
     ensures { OnOk result (map (λ name. name.now) names.new.items
-        ≡ map (λ name. name.now) names.old.items ++ map (λ w. w.name) worksheets.now) }
+        ≡ map (λ name. name.now) names.old.items ++ map (λ s. s.name.now.name) sheets.now) }
 {
-    for worksheet in worksheets {
-        names.push(&worksheet.name)?;
+    for sheet in sheets {
+        names.push(&sheet.name.name)?;
     }
     Ok(())
 }
 
 /// Puts the names of sheets that the formulas of these sheets' cells name and that weren't found at the end.
 fn push_unfound_in<'b>(
-    alloc: Global,
     names: &mut Names<'b>,
-    model: &'b Model<'_>,
-    worksheets: &[Worksheet],
+    sheets: &'b [SheetSeen<'b>],
 ) -> Result<(), OutOfMemory>
-    requires worksheets { worksheets.now ≡ map (worksheet_of model.now.book)
-        model.now.book.sheets }
-    requires valid { IsValidBook model.now.book }
     ensures { OnOk result (map (λ name. name.now) names.new.items
         ≡ map (λ name. name.now) names.old.items ++ flat_map unfound_of
-        (flat_map (λ s. map (λ cell. cell.1) s.cells) (core_of model.now.book).sheets)) }
+        (flat_map (λ s. map (λ cell. cell.1) s.cells) (map core_seen sheets.now))) }
 {
-    for (index, worksheet) in worksheets.iter().enumerate() {
-        push_unfound_at(alloc, names, model, index as u32, worksheet)?;
+    for sheet in sheets {
+        push_unfound_among(names, sheet.cells.as_slice())?;
     }
     Ok(())
 }
 
-/// Those of a sheet's cells.
-fn push_unfound_at<'b>(
-    alloc: Global,
-    names: &mut Names<'b>,
-    model: &'b Model<'_>,
-    sheet: u32,
-    worksheet: &Worksheet,
-) -> Result<(), OutOfMemory>
-    requires sheet { option_map (worksheet_of model.now.book)
-        (slice_get model.now.book.sheets sheet) ≡ Some worksheet.now }
-    requires valid { IsValidBook model.now.book }
-    ensures { (s : Sheet) → slice_get model.now.book.sheets sheet ≡ Some s → OnOk result
-        (map (λ name. name.now) names.new.items ≡ map (λ name. name.now) names.old.items
-        ++ flat_map unfound_of (map (λ cell. cell.1) (sheet_core s).cells)) }
-{
-    let cells = cells_in(alloc, model, sheet, worksheet)?;
-    push_unfound_among(names, cells.as_slice())
-}
-
 /// Those of these formulas.
-fn push_unfound_among<'b>(names: &mut Names<'b>, cells: &[Placed<'b>]) -> Result<(), OutOfMemory>
+fn push_unfound_among<'b>(
+    names: &mut Names<'b>,
+    cells: &'b [PlacedFormula<'b>],
+) -> Result<(), OutOfMemory>
     ensures { OnOk result (map (λ name. name.now) names.new.items
         ≡ map (λ name. name.now) names.old.items
-        ++ flat_map unfound_of (map (λ cell. cell.1) (map cell_seen cells.now))) }
+        ++ flat_map unfound_of (map (λ cell. cell.1) (map placed cells.now))) }
 {
     for cell in cells {
         push_unfound_of(names, cell.formula)?;

@@ -11,11 +11,22 @@ use std::alloc::Global;
 pub(crate) fn told(alloc: Global, lines: &[Line]) -> Result<String, OutOfMemory>
     ensures { IfOk result (λ text. chars (string_bytes text) ≡ flat_map ended_line lines.now) }
 {
-    let mut text = String::new(alloc);
+    let mut text = String::with_capacity(alloc, room_for(lines))?;
     for line in lines {
         push_line(&mut text, line)?;
     }
     Ok(text)
+}
+
+/// The bytes that they take.
+fn room_for(lines: &[Line]) -> usize {
+    let mut room: usize = 0;
+    for line in lines {
+        room = room
+            .saturating_add(line.text().as_str().len())
+            .saturating_add(1);
+    }
+    room
 }
 
 /// Appends a line with its line feed.

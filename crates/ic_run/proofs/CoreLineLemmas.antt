@@ -1,18 +1,22 @@
 -- A core line does what the identity machine does.
-use Rattle.std.proofs.Common.{◌≡◌, Option, Some, None, option_map, refl, ap, sym, subst, ◌∙◌}
+use Rattle.std.proofs.Common.{◌≡◌, ℕ, List, [], ◌∷◌, ◌++◌, Option, Some, None, encode_utf8_all, option_map, refl, ap, sym, subst, ◌∙◌}
 use Rattle.ic_laws.specs.Command as core
+use Rattle.ic_laws.specs.CoreStep.{core_step}
 use Rattle.ic_laws.specs.Lines as lines
 use Rattle.ic_machine.specs.Book as machine
 use Rattle.ic_machine.specs.Command.{Command, command_in, commands}
 use Rattle.ic_machine.specs.Core.{whole_command}
-use Rattle.ic_machine.specs.Reply.{reply_bytes}
-use Rattle.ic_machine.specs.Step.{command_step, english_errors}
+use Rattle.ic_machine.specs.Reply.{reply_bytes, reply_text}
+use Rattle.ic_machine.specs.Step.{command_step, english_errors, outcome_of, step}
 use Rattle.ic_machine.proofs.CoreLines.{core_lines_are}
-use Rattle.ic_book.specs.Book.{Book, IsSameBeside, ModelState, StepsTo, core_of, notations_in}
+use Rattle.ic_book.specs.Book.{Book, IsSameBeside, IsValidBook, ModelState, StepsTo, core_of, notations_in}
 use Rattle.ic_book.specs.Whole.{whole_of}
+use Rattle.ic_book.proofs.WholeLemmas.{whole_core}
 use Rattle.ic_commands.specs.Answered.{AreValid, StaysAfter}
 use Rattle.ic_run.specs.Core.{CoreLinesAreDone, HasNoSign, IsPlainBook, WritesNoSign}
-use Rattle.ic_run.proofs.CoreLemmas.{StandsBeside}
+use Rattle.ic_run.proofs.CoreLemmas.{StandsBeside, core_left, stands_beside, text_told}
+use Rattle.ic_run.proofs.CoreSteps.{told_as_core}
+use Rattle.ic_run.proofs.PlainLemmas.{stays_plain}
 
 -- what both machines make of a line, by the command that it is to each
 record DoesAsCore (o : Option Command) (k : Option core.Command) (old new : Book) : Type 0 where
@@ -28,6 +32,25 @@ same_beside old new left is beside = record {
   metadata = ap (λ (b : machine.Book). b.metadata) is ∙ beside.metadata;
   tables = ap (λ (b : machine.Book). b.tables) is ∙ beside.tables;
 }
+
+-- a command of the identity machine
+command_done : (k : core.Command) (old new : Book) → whole_of new ≡ (command_step (whole_of old) (Some (whole_command k))).0 → IsValidBook old → IsPlainBook (whole_of old) → HasNoSign (whole_command k)
+    → DoesAsCore (Some (whole_command k)) (Some k) old new
+command_done k old new left valid plain unsigned =
+    let w = whole_of old in
+    let made = step w (whole_command k) in
+    let o = core_step (notations_in old) (core_of old) k in
+    let told = told_as_core old valid plain k unsigned in
+    let is = whole_core old in
+    let text : reply_text (outcome_of w made).1 ≡ lines.reply_text (lines.outcome_of (core_of old) o).1 = text_told w (core_of old) is made o told in
+    record {
+      steps = record {
+        core = sym (whole_core new) ∙ ap machine.core_of left ∙ core_left w (core_of old) is made o told;
+        beside = same_beside old new (outcome_of w made).0 left (stands_beside w k);
+      };
+      tells = ap (λ (t : List ℕ). encode_utf8_all t ++ 10 ∷ []) text;
+      plain = subst IsPlainBook (sym left) (stays_plain w plain k);
+    }
 
 -- no command
 none_done : (old new : Book) → new ≡ old → IsPlainBook (whole_of old) → DoesAsCore None None old new

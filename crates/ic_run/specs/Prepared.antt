@@ -16,3 +16,11 @@ book_after tables created bytes = after whole_machine (made_start created tables
 -- a book is that, from a new one that was made at some moment
 abbrev pub IsBookAfter : TableSet → model.Book → List ℕ → List ℕ → Type 0
 IsBookAfter tables book bytes left = (created : List ℕ) × (whole_of book ≡ book_after tables created bytes)
+
+-- some lines lead from one whole book to another
+abbrev pub SomeLead : Book → Book → Type 0
+SomeLead old new = (lines : List (List ℕ)) × (new ≡ after whole_machine old lines)
+
+-- a book is what some lines leave, from a new one that was made at some moment
+abbrev pub IsLeftBySome : TableSet → model.Book → Type 0
+IsLeftBySome tables book = (created : List ℕ) × SomeLead (made_start created tables) (whole_of book)

@@ -8,7 +8,7 @@ ghost use Rattle.ic_run.specs.Core.{whole_machine};
 ghost use Rattle.ic_book.specs.Whole.{whole_of};
 ghost use Rattle.ic_run.specs.Desk.{start_refusal};
 ghost use Rattle.ic_run.specs.Make.{made_setting};
-ghost use Rattle.ic_run.specs.Prepared.{IsBookAfter};
+ghost use Rattle.ic_run.specs.Prepared.{IsBookAfter, IsLeftBySome, SomeLead};
 
 use crate::start::english_book;
 use crate::translation::status_of_error;
@@ -33,6 +33,9 @@ pub fn book_after<'a, S: Source>(
 ) -> Result<Model<'a>, u8>
     ensures book { IfOk result (λ m. IfTold (S.left source.old) (S.left source.new)
         (IsBookAfter tables.now m.book)) }
+
+    // Whatever the source tells of its bytes, there are lines that leave the book.
+    ensures lines { IfOk result (λ m. IsLeftBySome tables.now m.book) }
 
     // A read showed the end, and all bytes were taken.
     ensures end { OnOk result (S.ended source.new ≡ true) }
@@ -71,6 +74,8 @@ fn answer_all<S: Source>(
     ensures book { OnOk result (IfTold (S.left source.old) (S.left source.new) (λ bytes _.
         whole_of model.new.book
         ≡ after whole_machine (whole_of model.old.book) (texts_of bytes))) }
+    ensures lines { OnOk result
+        (SomeLead (whole_of model.old.book) (whole_of model.new.book)) }
     ensures end { OnOk result (S.ended source.new ≡ true) }
     ensures taken { OnOk result (IfTold (S.left source.old) (S.left source.new)
         (λ bytes left. left ≡ [])) }

@@ -3,6 +3,7 @@ use Rattle.ic_lines.proofs.ToldLemmas.{IfTold-weaker}
 use Rattle.ic_lines.specs.Bytes.{AppendsFront, IfTold}
 use Rattle.ic_run.specs.Prepared.{IsBookAfter}
 use Rattle.ic_dump.specs.Told.{AppendsCannot, AppendsDump, AppendsToldFront, TellsCannot, TellsDump, told_of}
+use Rattle.ic_dump.proofs.NeverRaw.{never_raw}
 use Rattle.ic_dump.proofs.MomentLemmas.{cannot_anytime, dump_anytime, front_anytime}
 use Rattle.ic_dump.proofs.desk.dump_desk.Goals as goal
 
@@ -35,3 +36,6 @@ returns-in-Ok-clause-front g c at_4 =
     IfTold-weaker (left c.args.source.now) (left c.book_after.new.source) (IsBookAfter tables book) (λ bytes _. IfTold (written c.args.sink.now) (written c.tell-status.new.sink) (AppendsToldFront tables bytes))
     (λ bytes rest is. IfTold-weaker (written c.args.sink.now) (written c.tell-status.new.sink) (AppendsFront (told_of (whole_of book))) (AppendsToldFront tables bytes)
     (λ before now told. front_anytime before now tables bytes book is told) (c.tell-status.ensures.front at_4)) c.in-Ok.ensures.book
+
+pub tell-status-requires : goal.tell-status-requires
+tell-status-requires g c = never_raw c.args.tables.now c.in-Ok.model.book c.in-Ok.ensures.lines

@@ -4,8 +4,9 @@ use Rattle.ic_lines.specs.Bytes.{AppendsFront, IfTold}
 use Rattle.ic_book.specs.Book.{core_of, notations_in}
 use Rattle.ic_book.specs.Sites.{site_of}
 use Rattle.ic_book.specs.Whole.{whole_of}
-use Rattle.ic_dump.specs.Refused.{Rereads, cause_of}
+use Rattle.ic_dump.specs.Refused.{RawBody, Rereads, cause_of}
 use Rattle.ic_dump.specs.Told.{TellsCannot, TellsDump, told_cannot, told_lines, told_of}
+use Rattle.ic_dump.proofs.NeverRaw.{never_caused}
 use Rattle.ic_dump.proofs.ToldLemmas.{fronts_cannot, fronts_dump, tells_cannot, tells_dump}
 use Rattle.ic_dump.proofs.desk.tell.Goals as goal
 
@@ -44,3 +45,10 @@ returns-in-Err-Rereads-clause-front g c at_4 =
     let bytes : c.as_bytes.result.now ≡ told_cannot = c.as_bytes.ensures.value in
     IfTold-weaker (written c.args.sink.now) (written c.written.new.sink) (AppendsFront c.as_bytes.result.now) (AppendsFront (told_of (whole_of b)))
     (λ before now w. fronts_cannot b before now site cause (subst (λ (t : List ℕ). AppendsFront t before now) bytes w)) (c.written.ensures.front at_4)
+
+pub unreachable-requires : goal.unreachable-requires
+unreachable-requires g c =
+    let b = c.args.model.now.book in
+    let key = c.in-Err-RawBody.field-0-0 in
+    let cause : cause_of (notations_in b) (core_of b) ≡ Some (RawBody key) = rw c.in-Err-RawBody.field-0-is at c.in-Err-RawBody.ensures.refused in
+    never_caused (notations_in b) (core_of b) key c.requires cause

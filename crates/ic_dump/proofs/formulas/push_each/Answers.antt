@@ -2,8 +2,8 @@ use Rattle.std.proofs.Common.{◌<◌, ◌++◌, ◌∷◌, [], ◌∙◌, ap, l
 use Rattle.ic_laws.specs.CoreBook.{CellPlace}
 use Rattle.ic_laws.specs.declared.tree.Formula.{Formula}
 use Rattle.ic_book.specs.Book.{core_of, notations_in}
+use Rattle.ic_book.specs.Lent.{placed}
 use Rattle.ic_dump.specs.Lines.{cell_line, english_formula}
-use Rattle.ic_dump.specs.Records.{cell_seen}
 use Rattle.ic_dump.proofs.CellLemmas.{mapped_more}
 use Rattle.ic_dump.proofs.formulas.push_each.Goals as goal
 
@@ -11,6 +11,6 @@ pub loop-cell-preserved : goal.loop-cell-preserved
 loop-cell-preserved c = λ index e.
     let b = c.args.model.now.book in
     let below : c.loop-cell.cell-index < length c.args.cells.now = search (rules, arith) in
-    mapped_more (λ (cell : CellPlace × Formula). cell_line index cell.0 (english_formula (notations_in b) (core_of b) cell.0 cell.1)) cell_seen c.args.cells.now c.loop-cell.cell-index c.cell-item.result c.args.lines.now.items c.loop-cell.lines.items c.push.new.self.items below c.cell-item.is
+    mapped_more (λ (cell : CellPlace × Formula). cell_line index cell.0 (english_formula (notations_in b) (core_of b) cell.0 cell.1)) placed c.args.cells.now c.loop-cell.cell-index c.cell-item.result c.args.lines.now.items c.loop-cell.lines.items c.push.new.self.items below c.cell-item.is
     (c.loop-cell.invariant index e)
     (c.in_ok-push.ensures.items ∙ ap (λ line. c.loop-cell.lines.items ++ line ∷ []) (c.in_ok-line_of_cell.ensures index e))

@@ -1,43 +1,34 @@
-use Rattle.std.proofs.Common.{◌≡◌, ◌≤◌, ◌<◌, ◌∙◌, Some, None, ap, length, map, option_map, rules, arith, slice_get, sym}
+use Rattle.std.proofs.Common.{◌≡◌, ◌≤◌, ◌<◌, ◌∙◌, List, Some, None, ap, length, map, option_map, refl, rules, arith, slice_get, sym}
+use Rattle.std.proofs.lemmas.List.{drop_all, length-map}
+use Rattle.std.proofs.lemmas.Option.{slice_get-map, slice_get_read}
 use Rattle.std.specs.Prelude.{flat_map}
-use Rattle.ic_laws.specs.CoreBook.{last_id}
-use Rattle.ic_sheets.specs.Sheet.{sheet_core}
-use Rattle.ic_book.specs.Book.{core_of, notations_in}
+use Rattle.ic_book.specs.Book.{notations_in}
+use Rattle.ic_book.specs.Lent.{placed}
 use Rattle.ic_book.specs.Sites.{site_of}
-use Rattle.ic_book.specs.Workbook.{worksheet_of}
-use Rattle.ic_dump.proofs.CellLemmas.{core_there, few_records, none_left, one_there, sheet_at}
+use Rattle.ic_book.specs.declared.lent.PlacedFormula.{PlacedFormula}
+use Rattle.ic_dump.specs.Records.{core_seen}
+use Rattle.ic_dump.specs.Refused.{rereading_cell}
 use Rattle.ic_dump.proofs.RefusedLemmas.{found_here, none_here, rereading_of}
 use Rattle.ic_dump.proofs.refused.rereading.Goals as goal
 
--- there are no more sheets than ids
-pub overflow_cast-index : goal.overflow_cast-index
-overflow_cast-index c =
-    let few : length c.args.worksheets.now ≤ last_id = few_records c.args.model.now.book c.args.worksheets.now c.requires.valid c.requires.worksheets in
-    search (rules, arith)
-
-pub rereading_in-requires-clause-sheet : goal.rereading_in-requires-clause-sheet
-rereading_in-requires-clause-sheet c =
-    let below : c.loop-index.index < length c.args.worksheets.now = search (rules, arith) in
-    sheet_at c.args.model.now.book c.args.worksheets.now c.loop-index.index c.index-worksheets-index.result c.requires.worksheets below c.index-worksheets-index.is
-
 pub returns-in-Some : goal.returns-in-Some
 returns-in-Some c =
-    let b = c.args.model.now.book in
-    let n = notations_in b in
-    let i = c.loop-index.index in
-    let w = c.index-worksheets-index.result in
-    let below : i < length c.args.worksheets.now = search (rules, arith) in
-    let its = one_there (worksheet_of b) (slice_get b.sheets i) w (sheet_at b c.args.worksheets.now i w c.requires.worksheets below c.index-worksheets-index.is) in
-    found_here (rereading_of n) (core_of b).sheets i (sheet_core its.0) (site_of c.in-Some.site) _ (core_there b.sheets i its.0 its.1)
-    (sym (c.in_ok-site.ensures its.0 its.1) ∙ ap (option_map site_of) c.in-Some.is) c.loop-index.invariant
+    let n = notations_in c.args.model.now.book in
+    let sheets = c.args.sheets.now in
+    let i = c.loop-sheet.sheet-index in
+    let x = c.sheet-item.result in
+    let below : i < length sheets = search (rules, arith) in
+    let there : slice_get (map core_seen sheets) i ≡ Some (core_seen x) = slice_get-map core_seen sheets i ∙ ap (option_map core_seen) (slice_get_read sheets (length sheets) i x refl below c.sheet-item.is) in
+    found_here (rereading_of n) (map core_seen sheets) i (core_seen x) (site_of c.in-Some.site) _ there
+    (sym (ap (λ (cells : List PlacedFormula). slice_get (flat_map (rereading_cell n x.name.now.id) (map placed cells)) 0) c.as_slice-cells.ensures.value) ∙ sym c.in_ok-site.ensures ∙ ap (option_map site_of) c.in-Some.is) c.loop-sheet.invariant
 
-pub loop-index-preserved : goal.loop-index-preserved
-loop-index-preserved c =
-    let b = c.args.model.now.book in
-    let n = notations_in b in
-    let i = c.loop-index.index in
-    let w = c.index-worksheets-index.result in
-    let below : i < length c.args.worksheets.now = search (rules, arith) in
-    let its = one_there (worksheet_of b) (slice_get b.sheets i) w (sheet_at b c.args.worksheets.now i w c.requires.worksheets below c.index-worksheets-index.is) in
-    none_here (rereading_of n) (core_of b).sheets i (sheet_core its.0) _ (core_there b.sheets i its.0 its.1)
-    (sym (c.in_ok-site.ensures its.0 its.1) ∙ ap (option_map site_of) c.in_default.is) c.loop-index.invariant
+pub loop-sheet-preserved : goal.loop-sheet-preserved
+loop-sheet-preserved c =
+    let n = notations_in c.args.model.now.book in
+    let sheets = c.args.sheets.now in
+    let i = c.loop-sheet.sheet-index in
+    let x = c.sheet-item.result in
+    let below : i < length sheets = search (rules, arith) in
+    let there : slice_get (map core_seen sheets) i ≡ Some (core_seen x) = slice_get-map core_seen sheets i ∙ ap (option_map core_seen) (slice_get_read sheets (length sheets) i x refl below c.sheet-item.is) in
+    none_here (rereading_of n) (map core_seen sheets) i (core_seen x) _ there
+    (sym (ap (λ (cells : List PlacedFormula). slice_get (flat_map (rereading_cell n x.name.now.id) (map placed cells)) 0) c.as_slice-cells.ensures.value) ∙ sym c.in_ok-site.ensures ∙ ap (option_map site_of) c.in_default.is) c.loop-sheet.invariant

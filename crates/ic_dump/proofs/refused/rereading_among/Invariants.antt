@@ -2,10 +2,10 @@ use Rattle.std.proofs.Common.{◌≡◌, drop, map}
 use Rattle.std.specs.List.{slice_get}
 use Rattle.std.specs.Prelude.{flat_map}
 use Rattle.ic_book.specs.Book.{notations_in}
-use Rattle.ic_dump.specs.Records.{cell_seen}
+use Rattle.ic_book.specs.Lent.{placed}
 use Rattle.ic_dump.specs.Refused.{rereading_cell}
 use Rattle.ic_dump.proofs.refused.rereading_among.Given as goal
 
 -- what is left decides
 abbrev pub invariant-loop-cell : goal.invariant-loop-cell
-invariant-loop-cell l = slice_get (flat_map (rereading_cell (notations_in l.model.book) l.id) (drop l.cell-index (map cell_seen l.cells))) 0 ≡ slice_get (flat_map (rereading_cell (notations_in l.model.book) l.id) (map cell_seen l.cells)) 0
+invariant-loop-cell l = slice_get (flat_map (rereading_cell (notations_in l.model.book) l.id) (drop l.cell-index (map placed l.cells))) 0 ≡ slice_get (flat_map (rereading_cell (notations_in l.model.book) l.id) (map placed l.cells)) 0

@@ -3,5 +3,5 @@ use Rattle.ic_dump.specs.Records.{FindsIds}
 use Rattle.ic_dump.proofs.scopes.own_ids.Given as goal
 
 -- those so far
-abbrev pub invariant-loop-worksheet : goal.invariant-loop-worksheet
-invariant-loop-worksheet l = FindsIds l.seen (map (λ w. w.sheet_id) (take l.worksheet-index l.worksheets))
+abbrev pub invariant-loop-sheet : goal.invariant-loop-sheet
+invariant-loop-sheet l = FindsIds l.seen (map (λ s. s.name.now.id) (take l.sheet-index l.sheets))

@@ -4,4 +4,4 @@ use Rattle.std.specs.Str.{chars}
 use Rattle.ic_dump.proofs.told.told.Goals as goal
 
 pub loop-line-init : goal.loop-line-init
-loop-line-init c = ap chars c.new-text.ensures.bytes ∙ chars-nil
+loop-line-init c = ap chars c.in_ok-text.ensures.bytes ∙ chars-nil

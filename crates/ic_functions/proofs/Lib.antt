@@ -1,0 +1,3 @@
+mod AllLemmas
+mod PlaceLemmas
+mod RowLemmas
