@@ -79,7 +79,7 @@ fn put_replies(row: &mut Row<'_>, count: usize, replies: &str) {
         }
     }
     row.tab();
-    row.put_number(refused);
+    row.put_number(i128::from(refused));
     row.tab();
     put_text(row, others.as_str());
 }
