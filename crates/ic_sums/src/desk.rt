@@ -93,10 +93,10 @@ fn tell<K: Sink>(alloc: Global, model: &mut Model<'_>, sink: &mut K) -> u8
     ensures write_fault { result ≡ 4 → HasFault (K.faults sink.old) (K.faults sink.new) }
     ensures which { (result ≡ 0) ⊎ ((result ≡ 4) ⊎ (result ≡ 6)) }
 {
-    match evaluate(alloc, model) {
-        Ok(()) => tell_values(alloc, model, sink),
-        Err(_) => 6,
+    if evaluate(alloc, model).is_err() {
+        return 6;
     }
+    tell_values(alloc, model, sink)
 }
 
 /// Writes the formulas of a book with their values. The status is as that of `tell`.
