@@ -13,6 +13,9 @@ from .words import unescaped
 # The bytes that a reply has room for before it is asked for again, at first.
 _ROOM = 4096
 
+# The largest room that is kept for the next reply.
+_MOST_KEPT = 1 << 20
+
 _EPOCH = datetime(1970, 1, 1, tzinfo=timezone.utc)
 
 
@@ -43,22 +46,22 @@ class Handle:
         self._out = ctypes.create_string_buffer(size)
         self._out_at = ctypes.addressof(self._out)
         self._out_len = size
+        self._view = memoryview(self._out).cast("B")
 
-    def _ask(self, call, given: bytes) -> tuple[int, bytes]:
+    def _ask(self, call, given: bytes) -> tuple[int, str]:
         """The status of a call that answers lines, and the reply that it leaves."""
         with self._lock:
             status = call(self._at, given, len(given), self._out_at, self._out_len, self._told_at)
-            if status == NOT_OPEN:
-                raise Closed
             length = self._told.value
             if status == OK:
-                return status, ctypes.string_at(self._out_at, length)
+                return OK, str(self._view[:length], "utf-8")
+            if status == NOT_OPEN:
+                raise Closed
             if length > self._out_len:
                 self._make_out(length)
-            if length:
-                library.lurvetta_copy(self._at, self._out_at, self._out_len, self._told_at)
-            reply = ctypes.string_at(self._out_at, length)
-            if self._out_len > 1 << 20:
+            library.lurvetta_copy(self._at, self._out_at, self._out_len, self._told_at)
+            reply = str(self._view[:length], "utf-8")
+            if self._out_len > _MOST_KEPT:
                 self._make_out(_ROOM)
             return (OK if status == NO_ROOM else status), reply
 
@@ -72,7 +75,7 @@ class Handle:
         status, reply = self._ask(library.lurvetta_answer, line.encode())
         if status == NO_MEMORY:
             raise WantOfMemory
-        return reply[:-1].decode()
+        return reply[:-1]
 
     def run(self, lines: Iterable[str]) -> list[str]:
         """The replies to command lines, in one call. No line has a line feed in it.
@@ -84,7 +87,7 @@ class Handle:
             if "\n" in line:
                 raise ValueError(f"a line feed stands in {line!r}")
         status, replies = self._ask(library.lurvetta_run, "".join(f"{line}\r\n" for line in lines).encode())
-        told = replies.decode().split("\n")[:-1]
+        told = replies.split("\n")[:-1]
         if status == NO_MEMORY:
             raise WantOfMemory(told)
         return told
@@ -93,8 +96,8 @@ class Handle:
         """The replies to the lines of a file, as the program of command lines writes them."""
         status, replies = self._ask(library.lurvetta_run, lines)
         if status == NO_MEMORY:
-            raise WantOfMemory(replies.decode().split("\n")[:-1])
-        return replies
+            raise WantOfMemory(replies.split("\n")[:-1])
+        return replies.encode()
 
     def _command(self, *words: str) -> list[str]:
         """The fields of the reply to a command."""

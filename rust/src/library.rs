@@ -33,8 +33,8 @@ impl Tables {
     }
 }
 
-// SAFETY: the library proves of all that stands behind a room that it may be used by one thread after another, and a room is
-// handed to a call by `&mut` alone. Tables are only read once they are made.
+// SAFETY: a book owns its memory, counts and locks nothing, and shares nothing but tables, which are only read once they are
+// made; a room is handed to a call by `&mut` alone.
 unsafe impl Send for Room {}
 unsafe impl Send for Tables {}
 

@@ -22,7 +22,7 @@ use ic_address::Address;
 use ic_laws::OutOfMemory;
 use ic_tables::Tables;
 pub use room::Room;
-use session::{Session, handed_on, not_open};
+use session::{Session, not_open};
 use status::{NO_MEMORY, OK};
 use std::alloc::Global;
 use std::mem::replace;
@@ -41,7 +41,7 @@ fn take_out(alloc: Global, room: &mut Room) -> Option<Box<Session>>
 fn put_back(room: &mut Room, session: Box<Session>)
     ensures { room.new.held ≡ Some session.value }
 {
-    let old = replace(room, room::full(Address::of(handed_on(session))));
+    let old = replace(room, room::full(Address::of(session)));
     if let Some(address) = room::opened(old) {
         drop(address.into_box());
     }

@@ -87,12 +87,12 @@ pub fn opened(
     ensures refused { IfErr result
         (TellsRefusal (wanted_refusal (wanted asked.now) tables.now)) }
 {
-    let Ok(mut session) = blank(alloc) else {
-        return Err(NO_MEMORY);
-    };
     let book = match asked.book(alloc, tables) {
         Ok(book) => book,
         Err(e) => return Err(status_of(&e)),
+    };
+    let Ok(mut session) = blank(alloc) else {
+        return Err(NO_MEMORY);
     };
     session.tables = Some(tables);
     session.opened = Some(Open {
@@ -246,18 +246,4 @@ fn status_of(e: &BookError) -> u8
         BookError::InvalidLanguage => INVALID_LANGUAGE,
         _ => NO_MEMORY,
     }
-}
-
-/// A session may be handed to another thread: all that it owns may.
-pub fn handed_on(session: Box<Session>) -> Box<Session>
-    ensures { result ≡ session }
-{
-    to_any_thread(session)
-}
-
-// What may be handed to another thread.
-fn to_any_thread<T: Send>(value: T) -> T
-    ensures { result ≡ value }
-{
-    value
 }

@@ -68,18 +68,18 @@ fn nothing(row: &mut Row<'_>) -> String {
 /// How many of the first so many replies aren't `ok`, and the text of the others.
 fn put_replies(row: &mut Row<'_>, count: usize, replies: &str) {
     let mut others = String::new(row.alloc);
-    let mut refused = 0;
+    let mut refused: u64 = 0;
     for (index, reply) in replies.split('\n').enumerate() {
         if index >= count {
             let is_put = (index == count || others.push('\n').is_ok())
                 && others.push_str(reply).is_ok();
             row.done(is_put);
         } else if reply != "ok" && !reply.starts_with("ok\t") {
-            refused += 1;
+            refused = refused.saturating_add(1);
         }
     }
     row.tab();
-    row.put_number(refused);
+    row.put_number(i128::from(refused));
     row.tab();
     put_text(row, others.as_str());
 }

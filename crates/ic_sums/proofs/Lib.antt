@@ -1,2 +1,3 @@
 pub mod EvaluatedLemmas
 pub mod PutLemmas
+pub mod ToldLemmas

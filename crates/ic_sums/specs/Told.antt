@@ -17,10 +17,14 @@ abbrev pub fields_of : Stepped Book → List Field
 fields_of (Ok done) = done.1
 fields_of (Err refusal) = []
 
+-- fields as they stand in a line, each behind a tab
+abbrev pub words : List Field → List ℕ
+words fields = flat_map field_word fields
+
 -- the line of a cell with these fields of its place, its formula and its value; none where it has no formula
 abbrev pub told_line : List Field → List Field → List Field → List ℕ
 told_line place [] value = []
-told_line place (formula ∷ more) value = codes "cell" ++ (flat_map field_word (place ++ (formula ∷ more ++ value)) ++ line_feed ∷ [])
+told_line place (formula ∷ more) value = codes "cell" ++ (words place ++ (words (formula ∷ more) ++ (words value ++ line_feed ∷ [])))
 
 -- the line of the cell at a place, with what `get_cell_formula` and `get_formatted_cell_value` answer there
 abbrev pub told_cell : Book → CellIndex → List ℕ

@@ -5,7 +5,7 @@ ghost use Rattle.ic_machine.specs.Fields.{fields_of_place, string_only};
 ghost use Rattle.ic_book.specs.Whole.{whole_of};
 ghost use Rattle.ic_run.specs.Desk.{start_refusal};
 ghost use Rattle.ic_run.specs.Make.{made_setting};
-ghost use Rattle.ic_sums.specs.Told.{AppendsValues, AppendsValuesFront, TellsBook, WritesBook, WritesBookFront, WritesValues, WritesValuesFront, told_cell, told_line};
+ghost use Rattle.ic_sums.specs.Told.{AppendsValues, AppendsValuesFront, TellsBook, WritesBook, WritesBookFront, WritesValues, WritesValuesFront, told_cell, told_line, words};
 
 use crate::evaluation::evaluate;
 use ic_book::{BookError, Model};
@@ -93,10 +93,10 @@ fn tell<K: Sink>(alloc: Global, model: &mut Model<'_>, sink: &mut K) -> u8
     ensures write_fault { result ≡ 4 → HasFault (K.faults sink.old) (K.faults sink.new) }
     ensures which { (result ≡ 0) ⊎ ((result ≡ 4) ⊎ (result ≡ 6)) }
 {
-    match evaluate(alloc, model) {
-        Ok(()) => tell_values(alloc, model, sink),
-        Err(_) => 6,
+    if evaluate(alloc, model).is_err() {
+        return 6;
     }
+    tell_values(alloc, model, sink)
 }
 
 /// Writes the formulas of a book with their values. The status is as that of `tell`.
@@ -160,10 +160,20 @@ fn push_line(
         ++ told_line (fields_of_place cell.now) (string_only formula.now) (string_only value.now)) }
 {
     push_text(text, "cell")?;
+    push_place(text, cell)?;
+    formula.write(text)?;
+    value.write(text)?;
+    push_char(text, '\n')?;
+    Ok(())
+}
+
+/// Appends the index of the sheet, the row and the column of a cell, each behind a tab.
+fn push_place(text: &mut String, cell: &CellIndex) -> Result<(), OutOfMemory>
+    ensures { OnOk result (chars (string_bytes text.new) ≡ chars (string_bytes text.old)
+        ++ words (fields_of_place cell.now)) }
+{
     cell.index.write(text)?;
     cell.row.write(text)?;
     cell.column.write(text)?;
-    formula.write(text)?;
-    value.write(text)?;
-    push_char(text, '\n')
+    Ok(())
 }

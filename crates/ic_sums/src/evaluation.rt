@@ -32,18 +32,24 @@ pub fn evaluate(alloc: Global, model: &mut Model<'_>) -> Result<(), BookError>
     ensures looks_up { model.new.has_all ≡ model.old.has_all }
 {
     for found in found_values(alloc, model)? {
-        put(model, found)?;
+        let Found { place, value } = found;
+        put(model, place.0, place.1, place.2, value)?;
     }
     Ok(())
 }
 
 /// Gives a formula its value.
-fn put(model: &mut Model<'_>, found: Found) -> Result<(), BookError>
+fn put(
+    model: &mut Model<'_>,
+    sheet: u32,
+    row: i32,
+    column: i32,
+    value: FormulaValue,
+) -> Result<(), BookError>
     ensures only_values { OnlyValues (whole_of model.old.book) (whole_of model.new.book) }
     ensures looks_up { model.new.has_all ≡ model.old.has_all }
 {
-    let Found { place, value } = found;
-    model.put_formula_value(place.0, place.1, place.2, value)
+    model.put_formula_value(sheet, row, column, value)
 }
 
 /// The values of the formulas of a book.
