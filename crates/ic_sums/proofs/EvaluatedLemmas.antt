@@ -1,5 +1,5 @@
 -- What is left of a book when one formula gets a value: only values differ.
-use Rattle.std.proofs.Common.{◌≡◌, ℕ, ℤ, zero, suc, pos, List, [], ◌∷◌, ◌++◌, map, Bool, true, false, cond, Option, Some, None, Result, Ok, Err, refl, sym, ap, ap₂, subst, ◌∙◌}
+use Rattle.std.proofs.Common.{◌≡◌, ℕ, zero, suc, List, [], ◌∷◌, ◌++◌, map, Bool, true, false, cond, Option, Some, None, Ok, Err, refl, sym, ap, ap₂, subst, ◌∙◌}
 use mathlib.Core.Bool.{true≢false}
 use Rattle.std.specs.FinMap as finite
 use Rattle.std.specs.List.{slice_get}
@@ -11,13 +11,13 @@ use Rattle.ic_laws.specs.declared.tree.Formula.{Formula}
 use Rattle.ic_cells.specs.declared.value.FormulaValue.{FormulaValue}
 use Rattle.ic_grid.proofs.ContentsLemmas.{get-remade, same_contents}
 use Rattle.ic_grid.specs.Block.{Place, same_place}
-use Rattle.ic_grid.specs.Contents.{Contents, remade}
+use Rattle.ic_grid.specs.Contents.{Contents}
 use Rattle.ic_grid.specs.Value.{is_cse_anchor, shape_at, valued, valued_cell}
 use Rattle.ic_machine.proofs.AlikeGrid.{entries-seen, get-seen}
 use Rattle.ic_machine.specs.Alike.{seen_by}
 use Rattle.ic_machine.specs.Book.{Book, Entry, Grid, Sheet, Stepped, core_cells, core_entry, core_of, core_sheet, found_or, on_grid, put_in, unless, with_sheet}
 use Rattle.ic_machine.specs.Content.{AnchorContent, BoolContent, Content, EmptyContent, ErrContent, FormulaContent, NumContent, SpillContent, TextContent, held}
-use Rattle.ic_machine.specs.Refusal.{InvalidSheet, Refusal, first_refusal}
+use Rattle.ic_machine.specs.Refusal.{InvalidSheet, Refusal}
 use Rattle.ic_machine.specs.Reply.{Field}
 use Rattle.ic_machine.specs.subjects.Arrays.{PutFormulaValue, arrays_step, put_value_step, with_grid_contents}
 use Rattle.ic_sums.specs.Evaluated.{OnlyValues, held_at, is_plain, unvalued, unvalued_sheet, without_values}

@@ -6,7 +6,7 @@ use Rattle.ic_machine.specs.Refusal.{Refusal}
 use Rattle.ic_machine.specs.subjects.Arrays.{PutFormulaValue, arrays_step}
 use Rattle.ic_book.proofs.WholeLemmas.{whole_core}
 use Rattle.ic_book.specs.Book.{Book, ModelState, core_of}
-use Rattle.ic_book.specs.Does.{Does, Made, Refused, Wanted}
+use Rattle.ic_book.specs.Does.{Does, Refused, Wanted}
 use Rattle.ic_book.specs.Fields.{no_fields}
 use Rattle.ic_book.specs.Refused.{refusal_of}
 use Rattle.ic_book.specs.Whole.{whole_of}

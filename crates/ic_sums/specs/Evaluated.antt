@@ -1,5 +1,5 @@
 -- What evaluating a book leaves of it: all but the values of formulas and what their arrays gave to other cells.
-use Rattle.std.specs.Prelude.{◌≡◌, ℕ, pos, map, Bool, true, false, Option, Some, None, option_and_then}
+use Rattle.std.specs.Prelude.{◌≡◌, ℕ, pos, map, Bool, true, false, Option, Some, option_and_then}
 use Rattle.std.specs.FinMap as finite
 use Rattle.std.specs.List.{slice_get}
 use Rattle.ic_laws.specs.CoreBook.{CellPlace}

@@ -1,5 +1,5 @@
 -- What the program writes of a book that is evaluated.
-use Rattle.std.specs.Prelude.{◌≡◌, ℕ, List, [], ◌∷◌, ◌++◌, Result, Ok, Err, codes, encode_utf8_all, flat_map}
+use Rattle.std.specs.Prelude.{◌≡◌, ℕ, List, [], ◌∷◌, ◌++◌, Ok, Err, codes, encode_utf8_all, flat_map}
 use Rattle.std.specs.Global.{Vec}
 use Rattle.ic_laws.specs.Character.{line_feed}
 use Rattle.ic_lines.specs.Bytes.{AppendsFront}

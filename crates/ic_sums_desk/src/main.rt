@@ -2,9 +2,9 @@
 //! does with its words.
 #![tactic(auto)]
 
-use ic_sums::sums_desk;
 use ic_lines::{StdSink, StdSource};
 use ic_run::{moment, words_given};
+use ic_sums::sums_desk;
 use ic_tables::sample_tables;
 use std::process::ExitCode;
 
