@@ -89,7 +89,7 @@ module _ (book : Book) (s : Sheet) where
   place_blank row column blank from =
       let none : finite.get (whole_sheet book.strings s).grid.contents (row, column) ≡ None = none_there row column (blank.free column from) in
       let number : style_number_at (whole_sheet book.strings s).grid row column ≡ first_style None None (option_and_then (λ (props : ColumnProps). props.style) (finite.get s.grid.columns column)) =
-        ap₂ (λ (o : Option Content) (r : Option ℕ). first_style (option_map held.style o) r (option_and_then (λ (props : ColumnProps). props.style) (finite.get s.grid.columns column))) none blank.plain
+      ap₂ (λ (o : Option Content) (r : Option ℕ). first_style (option_map held.style o) r (option_and_then (λ (props : ColumnProps). props.style) (finite.get s.grid.columns column))) none blank.plain
       in
       ap₂ emphasized (ap (λ n. (style_at (whole_of book).styles n).bold) number) (ap (λ (o : Option Content). option_map_or (content_markup (whole_of book) (whole_sheet book.strings s) (row, column)) o []) none)
 

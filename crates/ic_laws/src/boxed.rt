@@ -13,7 +13,6 @@ pub struct Boxed<T> {
 }
 
 impl<T> Model for Boxed<T> {
-
     ghost Value = { T };
 
     ghost coded = { T.code };
