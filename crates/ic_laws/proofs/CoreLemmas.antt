@@ -49,8 +49,6 @@ ids_few ns each apart =
     positive : (n : ℕ) → 0 < n → nat_eq 0 n ≡ false
     positive n h = grind arith
 
-]
-
 -- where an id is left, it is one more than the greatest
 pub fresh_is_next : (book : CoreBook) (id : ℕ) → Some id ≡ fresh_id book → (greatest_id book < last_id) × (id ≡ greatest_id book + 1)
 fresh_is_next book id e =
