@@ -13,6 +13,8 @@ pub struct Boxed<T> {
 }
 
 impl<T> Model for Boxed<T> {
+    ghost use Rattle.std.specs.Prelude.{List};
+
     ghost Value = { T };
 
     ghost coded = { T.code };
