@@ -1,5 +1,5 @@
 -- Foldings as texts, and words that agree.
-use Rattle.std.proofs.Common.{◌≡◌, ℕ, List, [], ◌∷◌, ◌++◌, Bool, true, false, cond, not, ◌&&◌, ◌||◌, ◌∙◌, IsUtf8, String, bytes_eq, chars, encode_utf8_all, map, refl, sym, ap, ap₂, append_assoc, append-nil}
+use Rattle.std.proofs.Common.{◌≡◌, ℕ, List, [], ◌∷◌, ◌++◌, Bool, true, false, cond, not, ◌&&◌, ◌||◌, ◌∙◌, IsUtf8, String, bytes_eq, chars, encode_utf8_all, map, refl, sym, ap, ap₂, append_assoc}
 use Rattle.std.proofs.Math.Bool.{and-false}
 use Rattle.std.proofs.lemmas.Map.Text.{btree_set_updates_text}
 use Rattle.std.proofs.lemmas.Str.{chars-encodes, encodes_same, scalars-chars}
