@@ -23,7 +23,7 @@ pub use escapes::{escape, push_escaped, unescape};
 pub use law::law_lines;
 pub use line::Line;
 pub use memory::{MemorySink, MemorySource};
-pub use reader::LineReader;
+pub use reader::{LineReader, cut_return, first_line_feed, text_of};
 pub use sink::{Sink, write_all};
 pub use source::Source;
 pub use standard::{StdSink, StdSource};

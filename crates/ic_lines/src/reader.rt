@@ -253,15 +253,15 @@ impl LineReader {
     }
 }
 
-// How many bytes stand before the first line feed.
-fn first_line_feed(bytes: &[u8]) -> Option<usize>
+/// How many bytes stand before the first line feed; None where there is none.
+pub fn first_line_feed(bytes: &[u8]) -> Option<usize>
     ensures { MatchOption result (has_line_feed bytes.now ≡ false) (IsFirstLineFeed bytes.now) }
 {
     memchr(b'\n', bytes)
 }
 
-// The bytes without a carriage return at their end.
-fn cut_return(bytes: &[u8]) -> &[u8]
+/// The bytes without a carriage return at their end.
+pub fn cut_return(bytes: &[u8]) -> &[u8]
     ensures { result.now ≡ without_return bytes.now }
 {
     let Some((last, front)) = bytes.split_last() else {
@@ -279,9 +279,9 @@ fn line_of(alloc: Global, bytes: &[u8]) -> Result<Line, OutOfMemory>
     Ok(Line::without_line_feed(text))
 }
 
-// The text of these bytes, the empty one where they aren't UTF-8.
+/// The text of a line's bytes, the empty one where they aren't UTF-8.
 #[tactic(auto, using(crate::proofs::LineLemmas::line_text_utf8, crate::proofs::LineLemmas::line_text_other))]
-fn text_of(bytes: &[u8]) -> &str
+pub fn text_of(bytes: &[u8]) -> &str
     ensures { chars result.now ≡ line_text bytes.now }
 {
     str::from_utf8(bytes).unwrap_or("")

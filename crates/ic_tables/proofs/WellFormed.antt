@@ -14,7 +14,7 @@ use Rattle.ic_tables.specs.declared.language.Language.{Language}
 use Rattle.ic_tables.specs.declared.locale.Locale.{Locale}
 use Rattle.ic_tables.specs.declared.locale.NamedLocale.{NamedLocale}
 use Rattle.ic_tables.specs.Tables.{TableSet, HasGoodFormats, HasGoodWords, IsWellFormed, codes_of, conditions, english, error_words_in, first_false, has_english_words, has_ids, has_numbers, has_text, has_zones, have_boolean_words, have_dates, have_error_words, have_function_words, have_groups, have_separators, have_symbols, ids_of, language_of, locale_of, tell_booleans, tell_errors}
-use Rattle.ic_tables.specs.Words.{boolean_words, differ, error_words, has_boolean_words, has_error_words, has_function_words, has_stored_booleans, has_stored_functions, has_stored_words, is_text, named_numbers, no_two_agree, numbers_functions, share_numbers, tells_booleans, tells_errors}
+use Rattle.ic_tables.specs.Words.{differ, has_boolean_words, has_error_words, has_function_words, has_stored_booleans, has_stored_functions, has_stored_words, is_text, named_numbers, no_two_agree, numbers_functions, share_numbers, tells_booleans, tells_errors}
 
 -- each condition holds
 pub record Conditions (t : TableSet) : Type 0 where

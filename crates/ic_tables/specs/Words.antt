@@ -1,6 +1,8 @@
 -- The words of a language: which texts may be one, and when those of a language can be told apart.
-use Rattle.std.specs.Prelude.{ℕ, suc, List, [], ◌∷◌, ◌++◌, Bool, true, false, not, ◌&&◌, ◌==◌, nat_lt, length, Option, Some, None, map, codes, bytes_eq, option_map, if◌then◌else◌}
+use Rattle.std.specs.Prelude.{◌≡◌, ℕ, suc, List, [], ◌∷◌, ◌++◌, Bool, true, false, not, ◌&&◌, ◌==◌, nat_lt, length, Option, Some, None, map, codes, bytes_eq, encode_utf8_all, option_map, String, if◌then◌else◌}
+use Rattle.std.specs.BTreeSet.{BTreeSet, contains_text}
 use Rattle.std.specs.List.{list_any, list_all, slice_get}
+use Rattle.std.specs.declared.alloc.Global.{Global}
 use Rattle.ic_laws.specs.Dialect.{has_error_shape, has_function_shape}
 use Rattle.ic_laws.specs.Name.{agrees, fold, is_variable_form}
 use Rattle.ic_laws.specs.declared.dialect.WordKind.{WordKind}
@@ -84,6 +86,10 @@ tells_booleans l = not (agrees l.booleans.true_word l.booleans.false_word)
 abbrev pub no_two_agree : List (List ℕ) → Bool
 no_two_agree [] = true
 no_two_agree (w ∷ ws) = not (list_any (agrees w) ws) && no_two_agree ws
+
+-- a set has the foldings of these words
+abbrev pub FindsFoldings : BTreeSet (String Global) → List (List ℕ) → Type 0
+FindsFoldings folded words = (word : List ℕ) → contains_text folded (encode_utf8_all (fold word)) ≡ list_any (agrees word) words
 
 -- each function's word begins with a letter and has only characters of words, and no two agree
 unfoldable pub has_function_words : Language → Bool

@@ -1,21 +1,43 @@
-ghost use Rattle.std.specs.Prelude.{◌≡◌, ◌++◌, IfOk, OnOk, chars, map, not};
-ghost use Rattle.ic_laws.specs.Name.{fold};
-ghost use Rattle.ic_tables.specs.Words.{is_prefix_free, is_proper_prefix, no_two_agree};
-ghost use Rattle.std.specs.List.{list_all};
+ghost use Rattle.std.specs.Prelude.{◌≡◌, ◌++◌, ◌∷◌, IfOk, List, OnOk, chars, map, not, ℕ};
+ghost use Rattle.ic_laws.specs.Name.{agrees, fold};
+ghost use Rattle.ic_tables.specs.Words.{FindsFoldings, is_prefix_free, is_proper_prefix};
+ghost use Rattle.ic_tables.specs.Words.{no_two_agree};
+ghost use Rattle.std.specs.List.{list_all, list_any};
 
-use crate::ids::{HasId, have_different_ids};
+use crate::ids::HasId;
 use caseless::default_case_fold_str;
 use ic_laws::scan::first_char;
 use ic_laws::{OutOfMemory, Text};
 use std::alloc::Global;
+use std::collections::BTreeSet;
 
 /// Whether no two of these words agree.
 pub fn no_two_agree<T: HasId>(alloc: Global, words: &[T]) -> Result<bool, OutOfMemory>
     ensures { IfOk result (λ told. told ≡ no_two_agree (map T.id_of words.now)) }
 {
-    let mut folded = Vec::new(alloc);
-    fold_onto(alloc, &mut folded, words)?;
-    Ok(have_different_ids(folded.as_slice()))
+    let mut behind = BTreeSet::new(alloc);
+    let mut rest = words;
+    while let Some((word, front)) = rest.split_last() {
+        if !put_folding(alloc, &mut behind, word.id())? {
+            return Ok(false);
+        }
+        rest = front;
+    }
+    Ok(true)
+}
+
+/// Puts the folding of a word beside those of others; tells whether it agrees with none of these.
+fn put_folding(
+    alloc: Global,
+    folded: &mut BTreeSet<String>,
+    word: &Text,
+) -> Result<bool, OutOfMemory>
+    ensures { (others : List (List ℕ)) → FindsFoldings folded.old others → IfOk result (λ new.
+        (new ≡ not (list_any (agrees word.now) others))
+        × FindsFoldings folded.new (word.now ∷ others)) }
+{
+    let text = default_case_fold_str(alloc, word.as_str())?;
+    Ok(folded.insert(text)?)
 }
 
 /// Appends the foldings of these words.
