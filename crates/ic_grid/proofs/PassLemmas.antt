@@ -1,5 +1,5 @@
 -- A walk over the cells that an ordered map has from a place on.
-use Rattle.std.proofs.Common.{◌≡◌, ◌∙◌, refl, sym, ap, subst, Bool, true, false, cond, ◌&&◌, Option, Some, None, List, [], ◌∷◌, arith}
+use Rattle.std.proofs.Common.{◌≡◌, ◌∙◌, refl, sym, ap, subst, Bool, true, false, cond, ◌&&◌, Some, None, List, [], ◌∷◌, arith}
 use Rattle.std.proofs.lemmas.Bool.{and_from, and_parts, both_ways}
 use Rattle.std.proofs.lemmas.Int.{ints}
 use Rattle.std.proofs.lemmas.List.Elements.{All-head, All-tail}
@@ -24,7 +24,7 @@ use Rattle.ic_cells.specs.Maps.{place_cmp}
 use Rattle.ic_cells.specs.declared.cell.Cell.{Cell}
 use Rattle.ic_grid.proofs.ChangeLemmas.{first_from}
 use Rattle.ic_grid.proofs.ContentsLemmas.{same_is}
-use Rattle.ic_grid.proofs.WalkLemmas.{by_side, from_itself, from_means, from_when, in_block, no_array, row_before}
+use Rattle.ic_grid.proofs.WalkLemmas.{from_itself, from_means, from_when, in_block, no_array, row_before}
 use Rattle.ic_grid.specs.Arrays.{HasNoArray}
 use Rattle.ic_grid.specs.Block.{Place, first_place, is_in_block, same_place}
 use Rattle.ic_grid.specs.Contents.{Contents}

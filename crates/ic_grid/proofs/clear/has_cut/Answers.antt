@@ -1,4 +1,3 @@
-use Rattle.std.proofs.Common.{refl}
 use Rattle.ic_grid.proofs.SoughtLemmas.{none_of_arrays}
 use Rattle.ic_grid.specs.declared.arrays.Sought.TheVariants as sought
 use Rattle.ic_grid.proofs.clear.has_cut.Goals as goal
