@@ -143,7 +143,7 @@ fn look_on(
     Seen::End
 }
 
-/// The same over the cells of a sheet.
+/// How far it comes over the cells of a sheet.
 fn look_in(cells: &PlaceMap<Cell>, block: &Block, from: (i32, i32), wanted: Wanted) -> Seen
     requires { is_area block.now ≡ true }
     ensures { IsSeen (wanted_at wanted (finite.get cells.now)) block.now from result }
