@@ -18,6 +18,7 @@ use ic_tables::sample_tables;
 use std::process::ExitCode;
 
 /// The calls that need no book.
+#[derive(Drop)]
 struct WithoutBook {}
 
 impl Calls for WithoutBook {
