@@ -1,8 +1,8 @@
 """Finds a row of cases for each refusal, and looks whether the rows that two pages name say what these say: docs/REFUSALS.md and
 tests/hostile/REFUSED.md.
 
-python3 tests/hostile/refusals.py [ROWS ANSWERS].. [--table]: the rows are those of crates/ic_cases (stdin and stdout), and of the
-files told besides. For each command of docs/COMMANDS.md each refusal that it lists, and a bad line, has to have a row; and in the tables of
+python3 tests/hostile/refusals.py [ROWS ANSWERS].. [--table]: the rows are those of crates/ic_cases and
+crates/ic_text_cases (stdin and stdout), and of the files told besides. For each command of docs/COMMANDS.md each refusal that it lists, and a bad line, has to have a row; and in the tables of
 the two pages each row has to be answered with its refusal. With --table it writes the table of REFUSED.md anew, in which
 commands with the same rows share a line. The status is 1 where something is missing. It takes a second."""
 import os
@@ -97,7 +97,8 @@ def told(text):
 
 
 def main(words):
-    paths = [os.path.join(TOP, "crates", "ic_cases", name) for name in ("stdin", "stdout")] + [word for word in words if not word.startswith("--")]
+    paths = [os.path.join(TOP, "crates", crate, name) for crate in ("ic_cases", "ic_text_cases") for name in ("stdin", "stdout")]
+    paths += [word for word in words if not word.startswith("--")]
     rows = []
     for stdin, stdout in zip(paths[::2], paths[1::2]):
         with open(stdin, encoding="utf-8", newline="\n") as questions, open(stdout, encoding="utf-8", newline="\n") as answers:

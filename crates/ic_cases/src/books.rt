@@ -1,9 +1,9 @@
 //! Books: `new_empty` begins one, and the command lines after it act on it.
-use crate::row::Row;
 use ic_book::{BookError, MentionSite, Model};
 use ic_cells::SpillValue;
 use ic_commands::answer_line;
 use ic_lines::Line;
+use ic_rows::Row;
 use ic_tables::Tables;
 use jiff::Timestamp;
 

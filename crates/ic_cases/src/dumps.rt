@@ -1,8 +1,8 @@
 //! Dumps that are run again.
 use crate::raw::put_text;
-use crate::row::Row;
 use ic_dump::dump_desk;
 use ic_lines::{SteadySink, SteadySource};
+use ic_rows::Row;
 use ic_run::desk;
 use jiff::Timestamp;
 

@@ -1,29 +1,13 @@
-//! The texts of errors.
-use crate::row::Row;
+//! The texts of the book's errors.
 use ic_book::BookError;
-use ic_laws::{Items, OutOfMemory};
-use ic_lines::{Failed, RunError};
+use ic_laws::Items;
+use ic_rows::Row;
 
-/// Answers the call, if it is one of these.
+/// `book_error` and the name of one: its text.
 pub fn call(row: &mut Row<'_>) {
-    match row.name {
-        "OutOfMemory" => row.put_made(OutOfMemory.to_string(row.alloc)),
-        "failed" => row.put_made(Failed.to_string(row.alloc)),
-        "run_error" => put_run_error(row),
-        "book_error" => put_book_error(row),
-        _ => {}
+    if row.name == "book_error" {
+        put_book_error(row);
     }
-}
-
-/// The text of an error of a run, which is its name.
-fn put_run_error(row: &mut Row<'_>) {
-    let error = match row.word(1) {
-        "ReadFault" => RunError::ReadFault,
-        "WriteFault" => RunError::WriteFault,
-        "TooManyTurns" => RunError::TooManyTurns,
-        _ => RunError::OutOfMemory,
-    };
-    row.put_made(error.to_string(row.alloc));
 }
 
 /// The errors of the book, but for one that tells places.

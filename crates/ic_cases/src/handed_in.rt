@@ -1,6 +1,5 @@
 //! A workbook that is handed in: what the book gives as records, as it is or edited.
 use crate::books::{Books, put_book_error, take_book};
-use crate::row::Row;
 use ic_book::Model;
 use ic_cells::{
     ArrayKind, ArrayValue, Cell, Color, ColumnProps, DefinedName, LineMap, Merge, PlaceMap,
@@ -8,6 +7,7 @@ use ic_cells::{
 };
 use ic_input::read_amount;
 use ic_laws::{Error, Items, Text};
+use ic_rows::Row;
 use std::mem;
 
 /// `handed_in`, a language, and edits, each behind a word `|`: takes in what the book gives as records, edited, which is the

@@ -1,10 +1,10 @@
 //! The import of records into the book of the last `new_empty`.
 use crate::books::Books;
 use crate::raw::bytes_in;
-use crate::row::Row;
 use ic_book::Model;
 use ic_import::{CellReferenceIndex, ImportError, import_csv};
 use ic_lines::MemorySource;
+use ic_rows::Row;
 
 /// `import_csv`, a sheet, a row, a column, a locale, a language, the input, as `raw` says bytes, the most bytes of a read, and the
 /// number of the read that fails, 0 for none: `ok`, how many records and how many fields, or `error` and what it says,

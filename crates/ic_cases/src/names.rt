@@ -1,8 +1,8 @@
 //! What finds the sheets and the definitions of the book by their names.
 use crate::books::Books;
 use crate::pools::put_formula;
-use crate::row::Row;
 use ic_book::NameIndex;
+use ic_rows::Row;
 
 /// `name_index`: each sheet as `sheet`, its folded name and its id, then each definition as `name`, its folded name, the
 /// id of its sheet or `none`, and its index from 0, all in the order of their keys. `parsed_definition` and an index: its

@@ -6,11 +6,11 @@ ghost use Rattle.ic_book.specs.Book.{notations_in, scene_in};
 
 use crate::books::{Books, put_book_error};
 use crate::handed_in::put_handed_in;
-use crate::row::Row;
-use crate::scenes::{empty_scene, put_stored};
 use crate::workbooks::put_workbook;
 use ic_book::{BookError, Model, Steps};
-use ic_laws::Formula;
+use ic_laws::{Bound, Formula, Items, Scene};
+use ic_rows::Row;
+use ic_tree::{Stored, print_bound};
 use std::marker::Brand;
 use std::sync::ledger::{Blank, Ledger};
 
@@ -38,19 +38,29 @@ fn put_parsed(row: &mut Row<'_>, books: &Books<'_>) {
     }
 }
 
-/// A tree stands in the stored form in a scene without sheets and names.
+/// `raw` and the text, `tree` and the formula, or `none`.
 pub fn put_formula(row: &mut Row<'_>, formula: Option<&Formula>) {
     match formula {
         None => row.none(),
         Some(Formula::Tree(tree)) => {
             row.put("tree\t");
-            put_stored(row, &empty_scene(row.alloc), tree);
+            put_tree(row, tree);
         }
         Some(Formula::Raw(text)) => {
             row.put("raw\t");
             row.put_text(text.as_str());
         }
     }
+}
+
+/// A formula in the stored form, in a scene without sheets and names.
+fn put_tree(row: &mut Row<'_>, tree: &Bound) {
+    let stored = Stored::new(row.tables);
+    let scene = Scene {
+        sheets: Items::from(Vec::new(row.alloc)),
+        names: Items::from(Vec::new(row.alloc)),
+    };
+    row.put_made(print_bound(row.alloc, &stored, &scene, "", tree));
 }
 
 fn put_place(row: &mut Row<'_>, model: &mut Model<'_>) {

@@ -1,5 +1,5 @@
 //! Bytes that aren't UTF-8, in a row that is.
-use crate::row::Row;
+use ic_rows::Row;
 
 /// The first character that stands for a byte.
 const FIRST: u32 = 0xE000;

@@ -1,12 +1,12 @@
 //! Whole runs over bytes in memory: those of the programs, by their words, and that of the book.
 use crate::books::Books;
 use crate::raw::{bytes_in, put_text};
-use crate::row::Row;
 use ic_audit::audit_desk;
 use ic_book::Model;
 use ic_dump::dump_desk;
 use ic_import::import_desk;
 use ic_lines::{MemorySink, MemorySource, RunError, Sink, Source, SteadySink, SteadySource};
+use ic_rows::Row;
 use ic_run::{desk, run};
 use ic_share::{share, share_desk};
 use jiff::Timestamp;

@@ -1,9 +1,8 @@
 //! What a book holds, by the records that it gives out.
 use crate::books::{Books, put_book_error};
-use crate::lookups::put_each;
-use crate::row::Row;
 use ic_cells::{ArrayKind, Cell, CellType, Merge, Workbook, Worksheet};
 use ic_laws::{Items, Text};
+use ic_rows::Row;
 
 /// `workbook` and what is asked: `cells`, `formulas` or `merges` and the index of a sheet, `strings`, `names`, or `about`: its
 /// name, its theme, its locale, its zone and who made it, with what and when.
@@ -34,21 +33,18 @@ fn put_records(row: &mut Row<'_>, workbook: &Workbook) {
 
 fn put_about(row: &mut Row<'_>, workbook: &Workbook) {
     let metadata = &workbook.metadata;
-    put_each(
-        row,
-        &[
-            &workbook.name,
-            &workbook.theme.name,
-            &workbook.settings.locale,
-            &workbook.settings.tz,
-            &metadata.application,
-            &metadata.app_version,
-            &metadata.creator,
-            &metadata.last_modified_by,
-            &metadata.created,
-            &metadata.last_modified,
-        ],
-    );
+    row.put_each(&[
+        &workbook.name,
+        &workbook.theme.name,
+        &workbook.settings.locale,
+        &workbook.settings.tz,
+        &metadata.application,
+        &metadata.app_version,
+        &metadata.creator,
+        &metadata.last_modified_by,
+        &metadata.created,
+        &metadata.last_modified,
+    ]);
 }
 
 /// How many texts there are, and each of them.

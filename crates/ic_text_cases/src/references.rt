@@ -1,12 +1,12 @@
 //! References in the A1 form, the stored form and the R1C1 form. In an answer a reference is its sheet, as `-` or its name
 //! after a quote, then `cell` with a row and a column, or `range` with those of two corners. An absolute row or column has
 //! a `$` before its number, a relative one is the distance.
-use crate::row::Row;
 use ic_laws::{OutOfMemory, Place, Position, RefPart, RefToken, Text};
 use ic_refs::{
     CellReferenceIndex, ParsedReference, ReferenceError, is_valid_column_number, is_valid_row,
     parse_reference_a1, read_a1, read_rc, spell_a1, spell_rc,
 };
+use ic_rows::Row;
 
 /// Answers the call, if it is one of these.
 pub fn call(row: &mut Row<'_>) {

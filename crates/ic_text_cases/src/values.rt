@@ -1,7 +1,7 @@
 //! Values of cells: how one is written for a programmer, and whether two are equal.
-use crate::row::Row;
 use ic_cells::CellValue;
 use ic_input::read_amount;
+use ic_rows::Row;
 
 /// Answers the call, if it is one of these. The word of a value is `none`, or a letter, `:` and what it is: `n` a number,
 /// `b` a truth, `t` a text and `s` a text that is handed over.

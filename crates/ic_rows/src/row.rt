@@ -182,6 +182,14 @@ impl<'w> Row<'w> {
         }
     }
 
+    /// Texts, with a tab after each.
+    pub fn put_each(&mut self, texts: &[&Text]) {
+        for text in texts {
+            self.put_text(text.as_str());
+            self.tab();
+        }
+    }
+
     /// `true` or `false`.
     pub fn put_bool(&mut self, holds: bool) {
         self.put(if holds { "true" } else { "false" });

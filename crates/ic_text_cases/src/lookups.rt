@@ -1,6 +1,6 @@
 //! Look-ups in the sample tables.
-use crate::row::Row;
-use ic_laws::{OutOfMemory, Text, WordKind};
+use ic_laws::{OutOfMemory, WordKind};
+use ic_rows::Row;
 use ic_tables::{BookIdError, FunctionKind, Locale, Words, find_word, word};
 
 /// Answers the call, if it is one of these.
@@ -82,37 +82,26 @@ fn put_locale(row: &mut Row<'_>) {
 /// Its separators, its currency and its formats, and the signs that all locales share.
 fn put_signs(row: &mut Row<'_>, locale: &Locale) {
     let symbols = &locale.numbers.symbols;
-    put_each(
-        row,
-        &[
-            &symbols.decimal,
-            &symbols.group,
-            &symbols.list,
-            &locale.currency.iso,
-            &locale.currency.symbol,
-            &locale.numbers.currency_formats.standard,
-            &locale.dates.date_formats.short,
-            &locale.dates.date_formats.long,
-            &symbols.percent_sign,
-            &symbols.plus_sign,
-            &symbols.minus_sign,
-            &symbols.approximately_sign,
-            &symbols.exponential,
-            &symbols.superscripting_exponent,
-            &symbols.per_mille,
-            &symbols.infinity,
-            &symbols.nan,
-            &symbols.time_separator,
-        ],
-    );
-}
-
-/// Texts, with a tab after each.
-pub fn put_each(row: &mut Row<'_>, texts: &[&Text]) {
-    for text in texts {
-        row.put_text(text.as_str());
-        row.tab();
-    }
+    row.put_each(&[
+        &symbols.decimal,
+        &symbols.group,
+        &symbols.list,
+        &locale.currency.iso,
+        &locale.currency.symbol,
+        &locale.numbers.currency_formats.standard,
+        &locale.dates.date_formats.short,
+        &locale.dates.date_formats.long,
+        &symbols.percent_sign,
+        &symbols.plus_sign,
+        &symbols.minus_sign,
+        &symbols.approximately_sign,
+        &symbols.exponential,
+        &symbols.superscripting_exponent,
+        &symbols.per_mille,
+        &symbols.infinity,
+        &symbols.nan,
+        &symbols.time_separator,
+    ]);
 }
 
 fn put_strings(row: &mut Row<'_>, texts: Result<Vec<String>, OutOfMemory>) {

@@ -1,6 +1,6 @@
 //! Readers and writers of std that fail, as sources and sinks.
-use crate::row::Row;
 use ic_lines::{Line, LineReader, RunError, StdSink, StdSource, write_all};
+use ic_rows::Row;
 use std::io::{self, Read, Write};
 
 /// A reader that gives three bytes, fails, and gives them again; and a writer that takes all, then nothing, and then fails.

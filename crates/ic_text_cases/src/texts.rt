@@ -1,5 +1,4 @@
 //! Texts: what one may be, the runs at its front, names and columns.
-use crate::row::Row;
 use ic_laws::agree;
 use ic_laws::scan::{
     are_digits, begins_with_digit, begins_with_letter, has_word_characters, is_a1_cell, is_lone,
@@ -11,6 +10,7 @@ use ic_refs::{
     ColumnError, column_to_number, is_valid_a1_identifier, is_valid_column, is_valid_identifier,
     is_valid_sheet_name, number_to_column, quote_name, trimmed,
 };
+use ic_rows::Row;
 
 /// Answers the call, if it is one of these.
 pub fn call(row: &mut Row<'_>) {

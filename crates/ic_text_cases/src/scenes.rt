@@ -1,8 +1,8 @@
 //! Formulas in scenes: a text is read, its mentions are bound in the scene that the row gives, and it is written again.
-use crate::row::Row;
 use ic_laws::{Bound, Dialect, Items, NameSpelling, OutOfMemory, Scene, SheetName, Spelled};
+use ic_rows::Row;
 use ic_tables::Tables;
-use ic_tree::{Shown, Stored, bind, clashes, is_dynamic, print, print_bound, read, spell};
+use ic_tree::{Shown, bind, clashes, is_dynamic, print, print_bound, read, spell};
 use std::alloc::Global;
 
 /// The scene that stands behind the text of a row. A sheet and a name each stand after a word that says so.
@@ -68,13 +68,8 @@ fn bound(
 }
 
 /// A formula as it is written in a scene.
-pub fn put_spelled<D: Dialect>(row: &mut Row<'_>, dialect: &D, scene: &Scene, bound: &Bound) {
+fn put_spelled<D: Dialect>(row: &mut Row<'_>, dialect: &D, scene: &Scene, bound: &Bound) {
     row.put_made(print_bound(row.alloc, dialect, scene, "", bound));
-}
-
-/// A formula in the stored form, as it is written in a scene.
-pub fn put_stored(row: &mut Row<'_>, scene: &Scene, bound: &Bound) {
-    put_spelled(row, &Stored::new(row.tables), scene, bound);
 }
 
 /// A text bound in the scene of the row, which is `sheet`, an id and a name, or `name`, a name and a scope or `none`, and

@@ -1,9 +1,9 @@
 //! Formulas: a text is read and its tree printed, in the stored form or as it is shown in a cell.
 use crate::references::put_token;
-use crate::row::Row;
 use crate::scenes::{empty_scene, put_bound};
 use ic_laws::{Bound, Dialect};
 use ic_refs::read_rc;
+use ic_rows::Row;
 use ic_tables::{BookIdError, Tables};
 use ic_tree::{Shown, Stored, print, print_bound, read, read_reference, read_typed, settle};
 

@@ -1,6 +1,6 @@
 //! Tables that break a condition.
-use crate::row::Row;
 use ic_laws::{Items, Text};
+use ic_rows::Row;
 use ic_tables::{FunctionKind, Language, LocaleWords, NamedLocale, Tables, TablesError};
 use std::alloc::Global;
 
