@@ -1,11 +1,10 @@
 //! A sheet as a table of texts.
-ghost use Rattle.std.specs.Prelude.{◌≡◌, ◌<◌, ◌≤◌, ◌≤ℤ◌, ◌++◌, [], ◌∷◌, ℤ, pos, IfNone, IfOk, IfSome, IsTrue, OnOk, None, Some, chars, length, string_bytes};
+ghost use Rattle.std.specs.Prelude.{◌≡◌, ◌<◌, ◌≤◌, ◌≤ℤ◌, ◌++◌, [], ◌∷◌, ℤ, pos, IfOk, IsTrue, OnOk, None, Some, chars, length, string_bytes};
 ghost use Rattle.std.specs.BTreeMap.{IsOrdered, keys};
 ghost use Rattle.std.specs.FinMap as finite;
 ghost use Rattle.std.specs.List.{join_by, range_with_len};
 ghost use Rattle.ic_cells.specs.Maps.{place_cmp};
 ghost use Rattle.ic_cells.specs.Style.{style_at};
-ghost use Rattle.ic_grid.specs.Walk.{HasNone, IsFirst};
 ghost use Rattle.ic_laws.specs.Character.{line_feed};
 ghost use Rattle.ic_laws.specs.Position.{column_count, row_count};
 ghost use Rattle.ic_machine.specs.subjects.Reading.{GetSheetMarkup, emphasized, reading_step};
@@ -18,7 +17,7 @@ ghost use Rattle.ic_book.specs.Shown.{StandsIn};
 use crate::content::formula_in;
 use crate::{BookError, Model};
 use ic_cells::{Cell, PlaceMap};
-use ic_grid::Grid;
+use ic_grid::{Grid, first_from};
 use ic_laws::OutOfMemory;
 use ic_laws::scan::{push_char, push_text};
 use ic_sheets::Sheet;
@@ -271,16 +270,5 @@ fn is_empty_row(cells: &PlaceMap<Cell>, row: i32) -> bool
     match first_from(cells, (row, 1)) {
         Some(place) => place.0 != row,
         None => true,
-    }
-}
-
-/// The first place from one on, by rows, at which a cell stands.
-fn first_from(cells: &PlaceMap<Cell>, from: (i32, i32)) -> Option<(i32, i32)>
-    ensures some { IfSome result (IsFirst (finite.get cells.now) from) }
-    ensures none { IfNone result (HasNone (finite.get cells.now) from) }
-{
-    match cells.as_map().range(from..).next() {
-        Some((place, _)) => Some(*place),
-        None => None,
     }
 }

@@ -7,6 +7,7 @@ pub mod HandedInLemmas
 pub mod KeyLemmas
 pub mod LoosenLemmas
 pub mod PaddedLemmas
+pub mod PassLemmas
 pub mod PlacedLemmas
 pub mod PrepareLemmas
 pub mod ReachedLemmas

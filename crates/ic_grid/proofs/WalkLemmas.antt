@@ -1,6 +1,6 @@
 -- The order of places by rows, and the first of them at which something stands.
 use Rattle.std.proofs.Common.{◌≡◌, ◌∙◌, refl, sym, ap, subst, ℤ, pos, Bool, true, false, cond, not, ◌&&◌, ◌||◌, ◌⊎◌, inl, inr, Option, Some, None, IsSome, is_some, List, [], ◌∷◌, arith}
-use Rattle.std.proofs.lemmas.Bool.{and_parts, both_ways}
+use Rattle.std.proofs.lemmas.Bool.{and_from, and_parts, both_ways}
 use Rattle.std.proofs.lemmas.Int.{ints}
 use Rattle.std.specs.BTreeMap as tree
 use Rattle.std.specs.BTreeMap.{BTreeMap, is_at}
@@ -8,7 +8,7 @@ use Rattle.std.specs.Map.{lookup}
 use Rattle.std.specs.Cmp.{IsTotalOrder}
 use Rattle.std.specs.BTreeMap.Range.{IsEntryInRange, IsLeBy, IsRangeOf}
 use Rattle.std.specs.List.{slice_get}
-use Rattle.std.specs.Option.{IfNone, IfSome}
+use Rattle.std.specs.Option.{IfNone, IfSome, option_and_then, option_map, unwrap_or}
 use Rattle.std.specs.declared.ops.Bound.TheVariants.{Included, Unbounded}
 use Rattle.std.specs.FinMap as finite
 use Rattle.std.specs.Prelude.{int_le, int_lt, ◌+ℤ◌, ◌≤ℤ◌, ◌<ℤ◌}
@@ -16,10 +16,17 @@ use Rattle.std.specs.Ordering.{is_eq, is_gt, ordering_then}
 use Rattle.std.specs.declared.cmp.Ordering.{Ordering}
 use Rattle.std.specs.declared.cmp.Ordering.TheVariants.{Less, Equal, Greater}
 use Rattle.ic_cells.specs.Maps.{place_cmp}
+use Rattle.ic_cells.specs.declared.cell.Cell.{Cell}
+use Rattle.ic_grid.specs.Arrays.{anchor_at, anchor_of}
 use Rattle.ic_grid.specs.Block.{Place, is_between, is_in_block, is_in_span}
 use Rattle.ic_grid.specs.Contents.{Contents}
-use Rattle.ic_grid.specs.Walk.{HasNone, HasNoneIn, IsFirst, IsFirstIn, is_from, is_left, row_behind}
+use Rattle.ic_grid.specs.Shape.{Shape, Empty, Value, Formula, Anchor, SpillOf, celled, shape_of}
+use Rattle.ic_grid.specs.Walk.{HasNone, HasNoneIn, IsFirst, IsFirstIn, IsFirstPassing, IsPassed, IsSeen, NonePasses, NoneUpTo, is_from, is_left, is_of_array, is_wanted, row_behind, wanted_at}
 use Rattle.ic_grid.specs.declared.block.Block.{Block}
+use Rattle.ic_grid.specs.declared.walk.Seen.{Seen}
+use Rattle.ic_grid.specs.declared.walk.Seen.TheVariants as seen
+use Rattle.ic_grid.specs.declared.walk.Wanted.{Wanted}
+use Rattle.ic_grid.specs.declared.walk.Wanted.TheVariants as wanted
 
 by_tests : (l g l2 g2 le : Bool) → le ≡ not g2 → (l2 ≡ true → g2 ≡ false) → is_gt (ordering_then (cond l Less (cond g Greater Equal)) (cond l2 Less (cond g2 Greater Equal))) ≡ not (l || (is_eq (cond l Less (cond g Greater Equal)) && le))
 by_tests true g l2 g2 le e h = refl
@@ -188,36 +195,90 @@ module _ (b : Block) (p : Place) where
       (λ t. between_rows q (in_block b q inside) (outside out top bottom) true t (ap (λ (n : Place). is_from n q) (sym (is ∙ start_is true t)) ∙ before))
       (λ t. between_rows q (in_block b q inside) (outside out top bottom) false t (ap (λ (n : Place). is_from n q) (sym (is ∙ start_is false t)) ∙ before))
 
-module _ {X : Type 0} (m : Contents X) (b : Block) (from : Place) where
-  -- no cell of the block stands before this place
-  abbrev pub Passed : Place → Type 0
-  Passed at = (q : Place) → is_left b from q ≡ true → is_from at q ≡ false → finite.get m q ≡ None
-
-  pub none_left : (at : Place) → Passed at → HasNone (finite.get m) at → HasNoneIn m b from
-  none_left at passed none q left = by_side (is_from at q) (none q) (passed q left)
-
+module _ (test : Place → Bool) (b : Block) (from : Place) where
   inside : (q : Place) → is_left b from q ≡ true → is_in_block b q ≡ true
   inside q left = (and_parts (is_in_block b q) (is_from from q) left).0
 
-  module _ (at : Place) (passed : Passed at) where
-    pub found : is_from from at ≡ true → (p : Place) → IsFirst (finite.get m) at p → is_in_block b p ≡ true → IsFirstIn m b from p
-    found behind p f within = record {
-      there = f.there;
-      within = within;
+  module _ (at : Place) (passed : NoneUpTo test b from at) where
+    onward : (q : Place) → is_left b from q ≡ true → is_from at q ≡ true → is_left b at q ≡ true
+    onward q left t = and_from (is_in_block b q) (is_from at q) (inside q left) t
+
+    pub none_left : NonePasses test b at → NonePasses test b from
+    none_left none q left = by_side (is_from at q) (λ t. none q (onward q left t)) (passed q left)
+
+    pub found : is_from from at ≡ true → (p : Place) → IsFirstPassing test b at p → IsFirstPassing test b from p
+    found behind p f = record {
+      passes = f.passes;
+      within = f.within;
       behind = from_far from at p behind f.behind;
-      first = λ q left before. by_side (is_from at q) (λ t. f.first q t before) (passed q left);
+      first = λ q left before. by_side (is_from at q) (λ t. f.first q (onward q left t) before) (passed q left);
     }
 
-    pub below : (p : Place) → IsFirst (finite.get m) at p → (b.row +ℤ b.height) ≤ℤ p.0 → HasNoneIn m b from
-    below p f low q left =
-        let i = in_block b q (inside q left) in
-        by_side (is_from at q) (λ t. f.first q t (row_before p q (omega (arith, ints, i.bottom, low)))) (passed q left)
-
-    pub done : (b.row +ℤ b.height) ≤ℤ at.0 → HasNoneIn m b from
+    pub done : (b.row +ℤ b.height) ≤ℤ at.0 → NonePasses test b from
     done low q left =
         let i = in_block b q (inside q left) in
         passed q left (row_before at q (omega (arith, ints, i.bottom, low)))
 
-    pub passed_more : (p : Place) → IsFirst (finite.get m) at p → is_in_block b p ≡ false → b.row ≤ℤ at.0 → p.0 <ℤ (b.row +ℤ b.height) → (next : Place) → next ≡ row_behind b p → Passed next
-    passed_more p f out top bottom next is q left before =
-        by_side (is_from at q) (λ t. f.first q t (skipped b p out (omega (arith, ints, from_row at p f.behind, top)) bottom next is q (inside q left) before)) (passed q left)
+    pub passed_more : (p : Place) → IsPassed test b at p → b.row ≤ℤ at.0 → (next : Place) → next ≡ row_behind b p → NoneUpTo test b from next
+    passed_more p f top next is q left before =
+        by_side (is_from at q)
+        (λ t. f.first q (onward q left t) (skipped b p f.out (omega (arith, ints, from_row at p f.behind, top)) f.above next is q (inside q left) before)) (passed q left)
+
+-- the first cell of all, and the first of an array
+module _ (m : Contents Cell) (b : Block) (from : Place) where
+  stands : (o : Option Cell) → unwrap_or (option_map (is_wanted wanted.Any) o) false ≡ true → IsSome o
+  stands None e = let never : false ≡ true = e in cc
+  stands (Some x) e = refl
+
+  missing : (o : Option Cell) → unwrap_or (option_map (is_wanted wanted.Any) o) false ≡ false → o ≡ None
+  missing None e = refl
+  missing (Some x) e = let never : true ≡ false = e in cc
+
+  pub some_any : (r : Option Place) → IfSome r (IsFirstPassing (wanted_at wanted.Any (finite.get m)) b from) → IfSome r (IsFirstIn m b from)
+  some_any None h = h
+  some_any (Some p) h = record {
+    there = stands (finite.get m p) h.passes;
+    within = h.within;
+    behind = h.behind;
+    first = λ q left before. missing (finite.get m q) (h.first q left before);
+  }
+
+  pub none_any : (r : Option Place) → IfNone r (NonePasses (wanted_at wanted.Any (finite.get m)) b from) → IfNone r (HasNoneIn m b from)
+  none_any None h = λ q left. missing (finite.get m q) (h q left)
+  none_any (Some p) h = h
+
+  of_none : (o : Option Cell) (q : Place) → unwrap_or (option_map (is_wanted wanted.OfArray) o) false ≡ false → option_and_then (λ x. anchor_of q (shape_of x)) o ≡ None
+  of_none None q e = refl
+  of_none (Some x) q e = by_shape (shape_of x) e
+    where
+      by_shape : (s : Shape) → is_of_array s ≡ false → anchor_of q s ≡ None
+      by_shape Empty e = refl
+      by_shape Value e = refl
+      by_shape Formula e = refl
+      by_shape (Anchor width height kind) e = cc
+      by_shape (SpillOf a) e = cc
+
+  pub no_array : NonePasses (wanted_at wanted.OfArray (finite.get m)) b from → (q : Place) → is_left b from q ≡ true → anchor_at celled m q ≡ None
+  no_array none q left = of_none (finite.get m q) q (none q left)
+
+-- a look over an ordered map is one over the finite map
+pub seen_as : (f g : Place → Option Cell) (w : Wanted) (b : Block) (from : Place) (r : Seen) → ((q : Place) → f q ≡ g q) → IsSeen (wanted_at w f) b from r → IsSeen (wanted_at w g) b from r
+seen_as f g w b from r e h = by_seen r h
+  where
+    same : (q : Place) → wanted_at w g q ≡ wanted_at w f q
+    same q = ap (λ o. unwrap_or (option_map (is_wanted w) o) false) (sym (e q))
+
+    by_seen : (r : Seen) → IsSeen (wanted_at w f) b from r → IsSeen (wanted_at w g) b from r
+    by_seen (seen.Found p) h = record {
+      passes = same p ∙ h.passes;
+      within = h.within;
+      behind = h.behind;
+      first = λ q left before. same q ∙ h.first q left before;
+    }
+    by_seen (seen.Passed p) h = record {
+      out = h.out;
+      above = h.above;
+      behind = h.behind;
+      first = λ q left before. same q ∙ h.first q left before;
+    }
+    by_seen seen.End h = λ q left. same q ∙ h q left

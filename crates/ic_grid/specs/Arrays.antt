@@ -1,10 +1,11 @@
 -- Arrays: which one a place belongs to, and those whose area doesn't change.
-use Rattle.std.specs.Prelude.{Bool, false, not, ◌&&◌, Option, Some, None, option_and_then}
+use Rattle.std.specs.Prelude.{◌≡◌, Bool, true, false, not, ◌&&◌, Option, Some, None, option_and_then}
 use Rattle.std.specs.FinMap as finite
 use Rattle.std.specs.List.{list_any}
+use Rattle.ic_cells.specs.declared.cell.Cell.{Cell}
 use Rattle.ic_grid.specs.Block.{Place, block_at, blocks_meet, is_block_within, is_in_block, is_single}
 use Rattle.ic_grid.specs.Contents.{Contents}
-use Rattle.ic_grid.specs.Shape.{Holding, Shape, Anchor, SpillOf, is_cse}
+use Rattle.ic_grid.specs.Shape.{Holding, Shape, Anchor, SpillOf, celled, is_cse}
 use Rattle.ic_grid.specs.declared.arrays.Sought.{Sought}
 use Rattle.ic_grid.specs.declared.arrays.Sought.TheVariants as sought
 use Rattle.ic_grid.specs.declared.block.Array.{Array}
@@ -73,3 +74,7 @@ module _ {X : Type 0} (h : Holding X) (m : Contents X) where
   -- some place of a block belongs to an array that is looked for
   abbrev pub has_sought : Sought → Block → Bool
   has_sought kind b = has_in b (is_sought kind b)
+
+-- no place of a block belongs to an array
+abbrev pub HasNoArray : Contents Cell → Block → Type 0
+HasNoArray m b = (q : Place) → is_in_block b q ≡ true → anchor_at celled m q ≡ None

@@ -1,10 +1,17 @@
 -- The places of a block one after another, by rows; and the first of them at which something stands.
-use Rattle.std.specs.Prelude.{◌≡◌, pos, ◌+ℤ◌, if◌then◌else◌, Bool, true, false, ◌&&◌, ◌||◌, int_le, int_lt, Option, None, IsSome}
+use Rattle.std.specs.Prelude.{◌≡◌, pos, ◌+ℤ◌, ◌<ℤ◌, if◌then◌else◌, Bool, true, false, ◌&&◌, ◌||◌, int_le, int_lt, Option, None, IsSome, option_map}
 use Rattle.std.specs.FinMap as finite
+use Rattle.std.specs.Option.{unwrap_or}
 use Rattle.std.specs.Ordering.{int_eq}
+use Rattle.ic_cells.specs.declared.cell.Cell.{Cell}
 use Rattle.ic_grid.specs.Block.{Place, is_in_block}
 use Rattle.ic_grid.specs.Contents.{Contents}
+use Rattle.ic_grid.specs.Shape.{Shape, Anchor, SpillOf, shape_of}
 use Rattle.ic_grid.specs.declared.block.Block.{Block}
+use Rattle.ic_grid.specs.declared.walk.Seen.{Seen}
+use Rattle.ic_grid.specs.declared.walk.Seen.TheVariants as seen
+use Rattle.ic_grid.specs.declared.walk.Wanted.{Wanted}
+use Rattle.ic_grid.specs.declared.walk.Wanted.TheVariants as wanted
 
 -- the second place is the first, or comes after it
 unfoldable pub is_from : Place → Place → Bool
@@ -43,3 +50,46 @@ module _ {X : Type 0} (m : Contents X) where
 
   abbrev pub HasNoneIn : Block → Place → Type 0
   HasNoneIn b from = (q : Place) → is_left b from q ≡ true → finite.get m q ≡ None
+
+-- a cell of an array: its formula, or a cell of its spill
+abbrev pub is_of_array : Shape → Bool
+is_of_array (Anchor width height kind) = true
+is_of_array (SpillOf a) = true
+is_of_array shape = false
+
+-- which cells a walk stops at: each, or those of arrays
+abbrev pub is_wanted : Wanted → Cell → Bool
+is_wanted wanted.Any x = true
+is_wanted wanted.OfArray x = is_of_array (shape_of x)
+
+-- such a cell stands at a place
+abbrev pub wanted_at : Wanted → (Place → Option Cell) → Place → Bool
+wanted_at w get p = unwrap_or (option_map (is_wanted w) (get p)) false
+
+module _ (test : Place → Bool) (b : Block) (from : Place) where
+  -- no place of the block from this one on and before that one passes the test
+  abbrev pub NoneUpTo : Place → Type 0
+  NoneUpTo p = (q : Place) → is_left b from q ≡ true → is_from p q ≡ false → test q ≡ false
+
+  -- the first place of the block that does
+  pub record IsFirstPassing (p : Place) : Type 0 where
+    pub passes : test p ≡ true
+    pub within : is_in_block b p ≡ true
+    pub behind : is_from from p ≡ true
+    pub first : NoneUpTo p
+
+  -- a place beside the block, before which none does
+  pub record IsPassed (p : Place) : Type 0 where
+    pub out : is_in_block b p ≡ false
+    pub above : p.0 <ℤ (b.row +ℤ b.height)
+    pub behind : is_from from p ≡ true
+    pub first : NoneUpTo p
+
+  abbrev pub NonePasses : Type 0
+  NonePasses = (q : Place) → is_left b from q ≡ true → test q ≡ false
+
+  -- what is seen on the way
+  abbrev pub IsSeen : Seen → Type 0
+  IsSeen (seen.Found p) = IsFirstPassing p
+  IsSeen (seen.Passed p) = IsPassed p
+  IsSeen seen.End = NonePasses

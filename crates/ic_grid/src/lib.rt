@@ -25,3 +25,4 @@ pub use block::{Array, Block};
 pub use error::GridError;
 pub use grid::Grid;
 pub use spill::gathered;
+pub use walk::first_from;

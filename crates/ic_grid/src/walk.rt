@@ -1,10 +1,11 @@
 //! The cells of a block one after another, by rows. Places at which no cell stands aren't looked at.
-ghost use Rattle.std.specs.Prelude.{◌≡◌, ◌≤ℤ◌, ◌<ℤ◌, pos, true, IfNone, IfSome};
+ghost use Rattle.std.specs.Prelude.{◌≡◌, ◌≤ℤ◌, ◌<ℤ◌, ◌&&◌, pos, true, false, None, IfNone, IfSome};
 ghost use Rattle.std.specs.BTreeMap as tree;
 ghost use Rattle.std.specs.FinMap as finite;
 ghost use Rattle.ic_cells.specs.Maps.{place_cmp};
-ghost use Rattle.ic_grid.specs.Block.{is_area};
-ghost use Rattle.ic_grid.specs.Walk.{HasNone, HasNoneIn, IsFirst, IsFirstIn, row_behind};
+ghost use Rattle.ic_grid.specs.Arrays.{HasNoArray};
+ghost use Rattle.ic_grid.specs.Block.{is_area, is_in_block};
+ghost use Rattle.ic_grid.specs.Walk.{HasNone, HasNoneIn, IsFirst, IsFirstIn, IsFirstPassing, IsSeen, NonePasses, is_wanted, row_behind, wanted_at};
 
 use crate::Block;
 use ic_cells::{Cell, PlaceMap};
@@ -21,8 +22,9 @@ fn first_of(map: &BTreeMap<(i32, i32), Cell>, from: (i32, i32)) -> Option<(i32, 
     }
 }
 
-/// The first place of a sheet from one on, by rows, at which a cell stands.
-fn first_from(cells: &PlaceMap<Cell>, from: (i32, i32)) -> Option<(i32, i32)>
+/// The first place of a sheet from one on, by rows and in a row by columns, at which a cell stands. None exactly where none
+/// does.
+pub fn first_from(cells: &PlaceMap<Cell>, from: (i32, i32)) -> Option<(i32, i32)>
     ensures some { IfSome result (IsFirst (finite.get cells.now) from) }
     ensures none { IfNone result (HasNone (finite.get cells.now) from) }
 {
@@ -41,8 +43,149 @@ fn row_behind(block: &Block, place: (i32, i32)) -> (i32, i32)
     }
 }
 
-/// The first place of a block from one on, by rows, at which a cell stands. Where no cell stands in a row of the sheet, the
-/// row costs nothing.
+/// Which cells a walk stops at.
+#[derive(Clone, Copy)]
+pub enum Wanted {
+    /// Each cell.
+    Any,
+    /// Those that belong to an array.
+    OfArray,
+}
+
+/// Whether a walk stops at a cell.
+fn is_wanted(wanted: Wanted, cell: &Cell) -> bool
+    ensures { result ≡ is_wanted wanted cell.now }
+{
+    match wanted {
+        Wanted::Any => true,
+        Wanted::OfArray => matches!(cell, Cell::ArrayFormula { .. } | Cell::SpillCell { .. }),
+    }
+}
+
+/// Whether a walk over a block stops at a place with a cell.
+fn stops_at(wanted: Wanted, block: &Block, place: (i32, i32), cell: &Cell) -> bool
+    ensures { result ≡ is_in_block block.now place && is_wanted wanted cell.now }
+{
+    block.has(place) && is_wanted(wanted, cell)
+}
+
+/// How many cells of a row beside a block are passed before the next row is searched.
+const STEPS: u32 = 2;
+
+/// How far a walk has come in a row.
+#[derive(Clone, Copy)]
+struct Pace {
+    row: i32,
+    left: u32,
+}
+
+impl Pace {
+    /// Whether the walk goes on to the next cell from one at a place: it doesn't where too many of the row stand beside the
+    /// block.
+    fn goes_on(&mut self, block: &Block, place: (i32, i32)) -> bool
+        ensures { result ≡ false → is_in_block block.now place ≡ false }
+    {
+        if block.has(place) {
+            return true;
+        }
+        if place.0 != self.row {
+            self.row = place.0;
+            self.left = STEPS;
+            return true;
+        }
+        if self.left == 0 {
+            return false;
+        }
+        self.left -= 1;
+        true
+    }
+}
+
+/// What a walk over the cells from a place on has come to.
+#[derive(Clone, Copy)]
+enum Seen {
+    /// A cell of the block at which it stops.
+    Found((i32, i32)),
+    /// One beside the block. It goes on behind it by a search.
+    Passed((i32, i32)),
+    /// No cell of the block is left.
+    End,
+}
+
+/// Goes over the cells from a place on, one after another, until one is found at which the walk over a block stops, or many
+/// stand beside it.
+fn look_on(
+    map: &BTreeMap<(i32, i32), Cell>,
+    block: &Block,
+    from: (i32, i32),
+    wanted: Wanted,
+) -> Seen
+    requires { is_area block.now ≡ true }
+    ensures { IsSeen (wanted_at wanted (tree.get place_cmp map.now)) block.now from result }
+{
+    let last_row = block.row + block.height;
+    let mut pace = Pace {
+        row: from.0,
+        left: STEPS,
+    };
+    let mut cells = map.range(from..);
+    while let Some((place, cell)) = cells.next() {
+        if stops_at(wanted, block, *place, cell) {
+            return Seen::Found(*place);
+        }
+        if place.0 >= last_row {
+            return Seen::End;
+        }
+        if !pace.goes_on(block, *place) {
+            return Seen::Passed(*place);
+        }
+    }
+    Seen::End
+}
+
+/// How far it comes over the cells of a sheet.
+fn look_in(cells: &PlaceMap<Cell>, block: &Block, from: (i32, i32), wanted: Wanted) -> Seen
+    requires { is_area block.now ≡ true }
+    ensures { IsSeen (wanted_at wanted (finite.get cells.now)) block.now from result }
+{
+    look_on(cells.as_map(), block, from, wanted)
+}
+
+/// The first place of a block from one on, by rows, with a cell at which a walk stops. Where no cell stands in a row of the
+/// sheet, the row costs nothing; where few stand beside the block, a step for each.
+fn next_wanted(
+    cells: &PlaceMap<Cell>,
+    block: &Block,
+    from: (i32, i32),
+    wanted: Wanted,
+) -> Option<(i32, i32)>
+    requires area { is_area block.now ≡ true }
+    requires row { block.now.row ≤ℤ from.0 }
+    requires column { block.now.column ≤ℤ from.1 }
+    ensures some { IfSome result
+        (IsFirstPassing (wanted_at wanted (finite.get cells.now)) block.now from) }
+    ensures none { IfNone result
+        (NonePasses (wanted_at wanted (finite.get cells.now)) block.now from) }
+{
+    let last_row = block.row + block.height;
+    let mut at = from;
+    for turn in block.row..last_row {
+        match look_in(cells, block, at, wanted) {
+            Seen::Found(place) => {
+                return Some(place);
+            }
+            Seen::End => {
+                return None;
+            }
+            Seen::Passed(place) => {
+                at = row_behind(block, place);
+            }
+        }
+    }
+    None
+}
+
+/// The first place of a block from one on, by rows, at which a cell stands.
 pub fn next_in(cells: &PlaceMap<Cell>, block: &Block, from: (i32, i32)) -> Option<(i32, i32)>
     requires area { is_area block.now ≡ true }
     requires row { block.now.row ≤ℤ from.0 }
@@ -50,19 +193,16 @@ pub fn next_in(cells: &PlaceMap<Cell>, block: &Block, from: (i32, i32)) -> Optio
     ensures some { IfSome result (IsFirstIn cells.now block.now from) }
     ensures none { IfNone result (HasNoneIn cells.now block.now from) }
 {
-    let last_row = block.row + block.height;
-    let mut at = from;
-    for turn in block.row..last_row {
-        let Some(place) = first_from(cells, at) else {
-            return None;
-        };
-        if block.has(place) {
-            return Some(place);
-        }
-        if place.0 >= last_row {
-            return None;
-        }
-        at = row_behind(block, place);
+    next_wanted(cells, block, from, Wanted::Any)
+}
+
+/// Whether a cell of an array stands in a block.
+pub fn has_array(cells: &PlaceMap<Cell>, block: &Block) -> bool
+    requires { is_area block.now ≡ true }
+    ensures { result ≡ false → HasNoArray cells.now block.now }
+{
+    match next_wanted(cells, block, block.first(), Wanted::OfArray) {
+        Some(_) => true,
+        None => false,
     }
-    None
 }

@@ -7,5 +7,5 @@ use Rattle.ic_grid.proofs.clear.clear_block.Goals as goal
 
 pub returns : goal.returns
 returns c =
-    cleared_so c.args.cells.now c.args.block.now c.args.all c.prepare_block.new.cells c.change_block.new.cells c.prepare_block.ensures
-    (c.change_block.ensures ∙ ap (λ (k : Change). remade_where (is_in_block c.args.block.now) (changed k) c.prepare_block.new.cells) c.wiping.ensures)
+    cleared_so c.args.cells.now c.args.block.now c.args.all c.release_arrays.new.cells c.change_block.new.cells c.release_arrays.ensures
+    (c.change_block.ensures ∙ ap (λ (k : Change). remade_where (is_in_block c.args.block.now) (changed k) c.release_arrays.new.cells) c.wiping.ensures)
