@@ -1,13 +1,16 @@
 //! Names that new sheets get, with a number that makes them differ from all others.
-ghost use Rattle.std.specs.Prelude.{◌≡◌, ◌<◌, ◌^◌, ◌+◌, ◌++◌, [], OnOk, IfOk, chars, length, map, string_bytes, take};
+ghost use Rattle.std.specs.Prelude.{◌≡◌, ◌<◌, ◌^◌, ◌+◌, ◌++◌, [], OnOk, IfOk, chars, length, map, string_bytes, take, false};
 ghost use Rattle.std.specs.Fmt.{decimal};
+ghost use Rattle.std.specs.List.{list_any};
+ghost use Rattle.ic_laws.specs.Name.{agrees};
 ghost use Rattle.ic_sheets.specs.Index.{FindsSheets};
+ghost use Rattle.ic_sheets.specs.Numbers.{AreMarked};
 ghost use Rattle.ic_machine.specs.subjects.Sheets.{base_name, copy_name, suffix_of};
 ghost use Rattle.ic_book.specs.SheetNames.{free_among, name_with};
 
 use ic_laws::scan::{first_char, push_char, push_text};
 use ic_laws::{OutOfMemory, Text};
-use ic_sheets::Sheets;
+use ic_sheets::{Sheets, is_marked};
 use std::alloc::Global;
 use std::collections::BTreeMap;
 
@@ -49,16 +52,56 @@ pub(crate) fn free_name(
     ensures { IfOk result (λ text. chars (string_bytes text) ≡ name_with name.now
         (free_among (map (λ s. s.name) sheets.now) (name_with name.now))) }
 {
+    let marks = marks_of(alloc, sheets, name)?;
     let mut text = String::new(alloc);
     let count = sheets.len() as u64;
     for passed in 0..count {
-        put_name(&mut text, name, passed + 1)?;
-        if !sheets.is_taken(ids, text.as_str()) {
+        let taken = is_number_taken(sheets, ids, &marks, &mut text, name, passed)?;
+        if !taken {
             return Ok(text);
         }
     }
     put_name(&mut text, name, count + 1)?;
     Ok(text)
+}
+
+/// Marks, from 0, for the numbers from 1: one is marked only where a sheet has the name with this number.
+fn marks_of(
+    alloc: Global,
+    sheets: &Sheets,
+    name: &NumberedName,
+) -> Result<Vec<bool>, OutOfMemory>
+    ensures { IfOk result (λ marks. AreMarked (name_with name.now) (map (λ s. s.name) sheets.now)
+        marks.items) }
+{
+    match name {
+        NumberedName::Word(base) => sheets.marked_numbers(base),
+        NumberedName::Copy(_) => Ok(Vec::new(alloc)),
+    }
+}
+
+/// Whether a sheet has the name with the number behind this one. Where none does, the text is that name.
+fn is_number_taken(
+    sheets: &Sheets,
+    ids: &BTreeMap<String, u32>,
+    marks: &[bool],
+    text: &mut String,
+    name: &NumberedName,
+    passed: u64,
+) -> Result<bool, OutOfMemory>
+    requires finds { FindsSheets ids.now sheets.now }
+    requires marked { AreMarked (name_with name.now) (map (λ s. s.name) sheets.now) marks.now }
+    requires few { passed < 2 ^ 32 }
+    ensures taken { IfOk result (λ taken. taken ≡ list_any (agrees (name_with name.now
+        (passed + 1))) (map (λ s. s.name) sheets.now)) }
+    ensures free { IfOk result (λ taken. taken ≡ false
+        → chars (string_bytes text.new) ≡ name_with name.now (passed + 1)) }
+{
+    if is_marked(marks, passed as usize) {
+        return Ok(true);
+    }
+    put_name(text, name, passed + 1)?;
+    Ok(sheets.is_taken(ids, text.as_str()))
 }
 
 /// Writes the name with this number in the place of a text.
