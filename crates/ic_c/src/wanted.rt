@@ -1,7 +1,7 @@
 //! How a book is asked for.
 ghost use Rattle.std.specs.Prelude.{◌≡◌, ◌⊎◌, [], ◌∷◌, Err, IfErr, IfOk, chars, pos, ◌*ℤ◌};
-ghost use Rattle.ic_book.specs.Book.{new_book};
-ghost use Rattle.ic_book.specs.Refused.{Refuses};
+ghost use Rattle.ic_parts.specs.Book.{new_book};
+ghost use Rattle.ic_parts.specs.Refused.{Refuses};
 ghost use Rattle.ic_c.specs.Opened.{AreUtf8, wanted_refusal};
 ghost use Rattle.jiff_core.specs.Timestamp.{IsTimestampNanos};
 ghost use Rattle.ic_c.specs.Wanted.{wanted};

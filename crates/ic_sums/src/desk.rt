@@ -2,7 +2,7 @@
 ghost use Rattle.std.specs.Prelude.{◌≡◌, ◌⊎◌, ◌↔◌, ◌+◌, ◌++◌, ◌<◌, ◌≤◌, ◌^◌, [], Some, true, chars, flat_map, length, string_bytes, IfOk, IsNone, IsSome, IsSomeAnd, OnOk};
 ghost use Rattle.ic_lines.specs.Bytes.{HasFault, IfTold};
 ghost use Rattle.ic_machine.specs.Fields.{fields_of_place, string_only};
-ghost use Rattle.ic_book.specs.Whole.{whole_of};
+ghost use Rattle.ic_parts.specs.Whole.{whole_of};
 ghost use Rattle.ic_run.specs.Desk.{start_refusal};
 ghost use Rattle.ic_run.specs.Make.{made_setting};
 ghost use Rattle.ic_sums.specs.Told.{AppendsValues, AppendsValuesFront, TellsBook, WritesBook, WritesBookFront, WritesValues, WritesValuesFront, told_cell, told_line, words};

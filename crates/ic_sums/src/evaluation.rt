@@ -1,7 +1,7 @@
 //! The values of all formulas of a book.
 ghost use Rattle.std.specs.Prelude.{◌≡◌};
-ghost use Rattle.ic_book.specs.Book.{core_of};
-ghost use Rattle.ic_book.specs.Whole.{whole_of};
+ghost use Rattle.ic_parts.specs.Book.{core_of};
+ghost use Rattle.ic_parts.specs.Whole.{whole_of};
 ghost use Rattle.ic_sums.specs.Evaluated.{OnlyValues};
 
 use crate::cells::{Cells, Place, State, constants};

@@ -1,5 +1,5 @@
 use Rattle.std.proofs.Common.{◌≡◌, chars, flat_map, string_bytes, take}
-use Rattle.ic_book.specs.Whole.{whole_of}
+use Rattle.ic_parts.specs.Whole.{whole_of}
 use Rattle.ic_sums.specs.Told.{told_cell}
 use Rattle.ic_sums.proofs.desk.lines_of.Given as goal
 
