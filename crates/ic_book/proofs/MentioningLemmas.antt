@@ -10,7 +10,7 @@ use Rattle.ic_changes.specs.Mentioning.{cells_passing, definition_passing, menti
 use Rattle.ic_parts.specs.Sites.{site_of}
 use Rattle.ic_changes.specs.declared.mentioning.Sought.{Sought}
 use Rattle.ic_book.specs.declared.model.Model.TheInside.{Inside}
-use Rattle.ic_changes.proofs.MentioningLemmas.{nothing_in_raw}
+use Rattle.ic_changes.proofs.MentioningLemmas.{bodies_seen, nothing_in_raw, sheets_seen}
 
 -- what is listed of the contents of a model
 pub listed_seen : (s : Sought) (inside : Inside) (now : ModelState) → held_state inside ≡ now → map site_of (sites_passing (mentions s) inside.contents.sheets inside.contents.definitions) ≡ passing_sites (mentions s) (whole_of now.book)

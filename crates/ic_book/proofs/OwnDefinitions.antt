@@ -29,7 +29,7 @@ use Rattle.ic_parts.specs.declared.own_text.OwnText.TheVariants as owns
 use Rattle.ic_parts.proofs.ExtendLemmas.{first_earlier, first_later}
 use Rattle.ic_changes.proofs.OwnTextLemmas.{left_done}
 use Rattle.ic_book.proofs.UpdatedRules.{after_is}
-use Rattle.ic_changes.proofs.OwnDefinitions.{some_is}
+use Rattle.ic_changes.proofs.OwnDefinitions.{owns_texts, some_is}
 
 module _ (book : machine.Book) (u : Update) where
   abbrev asked : Option Refusal

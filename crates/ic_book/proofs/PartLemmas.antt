@@ -21,7 +21,7 @@ use Rattle.ic_parts.specs.Refused.{refusal_of}
 use Rattle.ic_parts.specs.Whole.{whole_of, whole_sheet, whole_tab}
 use Rattle.ic_parts.specs.declared.error.BookError.{BookError}
 use Rattle.ic_parts.specs.declared.error.BookError.TheVariants as errors
-use Rattle.ic_parts.proofs.PartLemmas.{updated_same}
+use Rattle.ic_parts.proofs.PartLemmas.{updated_same, whole_with_tab}
 use Rattle.ic_parts.proofs.PartLemmas.{with_tab}
 use Rattle.ic_parts.proofs.PartLemmas.{frozen_there, valid_with_tab}
 use Rattle.ic_parts.proofs.PartLemmas.{found, missing}

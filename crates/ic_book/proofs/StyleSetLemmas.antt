@@ -18,7 +18,7 @@ use Rattle.ic_parts.specs.Styled.{line_causes, with_line_style}
 use Rattle.ic_book.specs.declared.model.Model.TheInside.{Inside}
 use Rattle.ic_parts.specs.declared.styled.Line.{Line}
 use Rattle.ic_parts.proofs.PartLemmas.{updated_same}
-use Rattle.ic_parts.proofs.StyleSetLemmas.{updated_as}
+use Rattle.ic_parts.proofs.StyleSetLemmas.{styled_valid, updated_as}
 use Rattle.ic_parts.proofs.StyleSetLemmas.{styled_book}
 
 -- of what a model keeps ----

@@ -74,7 +74,7 @@ module _ (test : Formula → Bool) (raw_fails : test (formulas.Raw []) ≡ false
       cells_seen strings (sheet_of s) (finite.entries s.grid.cells)
       ∙ ap (flat_map (λ (entry : Entry). passing_cell test (whole_sheet strings (sheet_of s)) entry.0 (formula_index entry.1))) (sym (entries-seen (content_of strings) s.grid.cells))
 
-  sheets_seen : (strings : List (List ℕ)) (ss : List HeldSheet) → map site_of (flat_map (cells_passing test) ss) ≡ flat_map (passing_cells test) (map (whole_sheet strings) (sheets_of ss))
+  pub sheets_seen : (strings : List (List ℕ)) (ss : List HeldSheet) → map site_of (flat_map (cells_passing test) ss) ≡ flat_map (passing_cells test) (map (whole_sheet strings) (sheets_of ss))
   sheets_seen strings [] = refl
   sheets_seen strings (s ∷ ss) = map-append site_of (cells_passing test s) (flat_map (cells_passing test) ss) ∙ ap₂ (λ (a b : List Site). a ++ b) (sheet_seen strings s) (sheets_seen strings ss)
 
@@ -85,7 +85,7 @@ module _ (test : Formula → Bool) (raw_fails : test (formulas.Raw []) ≡ false
       by_test true = refl
       by_test false = refl
 
-  bodies_seen : (ds : List Definition) → map site_of (flat_map (definition_passing test) ds) ≡ flat_map (passing_body test) ds
+  pub bodies_seen : (ds : List Definition) → map site_of (flat_map (definition_passing test) ds) ≡ flat_map (passing_body test) ds
   bodies_seen [] = refl
   bodies_seen (d ∷ ds) = map-append site_of (definition_passing test d) (flat_map (definition_passing test) ds) ∙ ap₂ (λ (a b : List Site). a ++ b) (body_seen d) (bodies_seen ds)
 

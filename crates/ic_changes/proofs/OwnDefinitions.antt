@@ -41,7 +41,7 @@ some_core (Some r) p e h = (r, refl)
 
 -- a definition that is written as a command's own text
 module _ (book : machine.Book) (command : Command) (d : Definition) where
-  owns_texts : (its : Option Definition) → its ≡ Some d → (target : machine.Book) (texts : List (List ℕ)) (s : List ℕ) → s ≡ body_text target (Some d) → with_last s texts ≡ with_last (body_text target its) texts
+  pub owns_texts : (its : Option Definition) → its ≡ Some d → (target : machine.Book) (texts : List (List ℕ)) (s : List ℕ) → s ≡ body_text target (Some d) → with_last s texts ≡ with_last (body_text target its) texts
   owns_texts its is target texts s so = ap (λ (t : List ℕ). with_last t texts) (so ∙ sym (ap (body_text target) is))
 
 -- A new definition. ----

@@ -45,7 +45,7 @@ module _ (index : ℕ) (tab : Tab) (book : Book) (valid : IsValidBook book) (she
   pub frozen_there : IsFrozen (whole_tab sheet.tab)
   frozen_there = old_holds.layout.frozen
 
-  whole_with_tab : whole_of (with_tab index tab book) ≡ with_sheet (whole_of book) index new_sheet
+  pub whole_with_tab : whole_of (with_tab index tab book) ≡ with_sheet (whole_of book) index new_sheet
   whole_with_tab =
       ap (λ (sheets : List machine.Sheet). let b : machine.Book = record (whole_of book) { sheets = sheets } in b)
       (updated_alike (whole_sheet book.strings) (λ s. record s { tab = tab }) (λ s. new_sheet) index book.sheets sheet at refl)

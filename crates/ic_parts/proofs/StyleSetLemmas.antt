@@ -89,7 +89,7 @@ module _ (book : Book) (valid : IsValidBook book) (index : ℕ) (line : Line) (s
       sheet_found (record { book = book; has_all = [] }) index (λ sheet. unless_refused (line_causes line) (with_grid_style (whole_of book) index sheet (whole_with_line_style line) (numbered style book.styles)) []) s at
       ∙ ap (λ o. unless o left []) e
 
-  styled_valid : first_refusal (line_causes line) ≡ None → IsValidBook (styled_book index line style book)
+  pub styled_valid : first_refusal (line_causes line) ≡ None → IsValidBook (styled_book index line style book)
   styled_valid clear = record {
     whole = subst valid_machine.IsValidBook (sym whole_left) (subst StaysValid (line_step None clear) (line_stays (whole_of book) index line style valid.whole));
     strings = all_updated (λ (s : Sheet). HasStrings (length book.strings) s.grid) (λ s. record s { grid = with_line_style line number s.grid }) (λ s h. line_strings (length book.strings) line number s.grid h) index book.sheets valid.strings;
