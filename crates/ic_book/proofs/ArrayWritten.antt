@@ -1,5 +1,5 @@
 -- An array formula that is written into a block: what a model holds after it.
-use Rattle.std.proofs.Common.{◌≡◌, ℕ, ◌<◌, ◌-◌, List, true, map, length, Some, None, option_map, refl, sym, ap, ap₂, subst, ◌∙◌, IfSome}
+use Rattle.std.proofs.Common.{◌≡◌, ℕ, ◌<◌, List, true, map, length, Some, None, option_map, refl, sym, ap, ap₂, subst, ◌∙◌, IfSome}
 use Rattle.std.specs.List.{slice_get}
 use Rattle.std.proofs.lemmas.List.{length-map}
 use Rattle.std.proofs.lemmas.Option.{slice_get-map, slice_get_within}
@@ -20,7 +20,7 @@ use Rattle.ic_pool.specs.Pool.{IsPlaced}
 use Rattle.ic_sheets.specs.Rewriting.{sheets_of}
 use Rattle.ic_sheets.specs.Sheet.{Sheet, TakesArray, WritesArrayAt, sheet_of}
 use Rattle.ic_sheets.specs.declared.sheet.Sheet.{Sheet as HeldSheet}
-use Rattle.ic_parts.specs.Arrays.{WritesArray, after_equals, array_causes, array_refusal, array_refusal_in, with_array}
+use Rattle.ic_parts.specs.Arrays.{WritesArray, after_equals, array_causes, array_refusal, array_refusal_in}
 use Rattle.ic_parts.specs.Book.{Book}
 use Rattle.ic_book.specs.Inside.{IsHeld, held as held_book, with_sheets, with_styles}
 use Rattle.ic_parts.specs.Written.{written_formula}

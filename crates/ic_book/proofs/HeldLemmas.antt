@@ -16,7 +16,6 @@ use Rattle.ic_laws.specs.CoreBook.{CellPlace, Definition, Sheet as CoreSheet, fo
 use Rattle.ic_laws.specs.CoreStep.{add_sheet_causes, add_sheet_refusal, changed_by, delete_refusal, formula_of, move_refusal, moved, rename_causes, rename_refusal, unless_refused, updated_at, with_new_sheet, with_sheet_name, without_sheet}
 use Rattle.ic_laws.specs.Greatest.{greatest}
 use Rattle.ic_laws.specs.Notations.{AreNotations, Notations}
-use Rattle.ic_laws.specs.Refusal.{first_refusal}
 use Rattle.ic_tables.specs.Tables.{TableSet}
 use Rattle.ic_tables.specs.declared.language.Language.{Language}
 use Rattle.ic_tables.specs.declared.locale.NamedLocale.{NamedLocale}

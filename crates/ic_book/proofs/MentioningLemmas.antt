@@ -1,5 +1,5 @@
 -- What a model lists as mentioning a sheet or a definition is what the machine says of the whole book.
-use Rattle.std.proofs.Common.{◌≡◌, ◌+◌, List, ◌++◌, map, ap, ap₂, ◌∙◌}
+use Rattle.std.proofs.Common.{◌≡◌, List, ◌++◌, map, ap, ap₂, ◌∙◌}
 use Rattle.std.proofs.lemmas.List.{map-append}
 use Rattle.std.specs.Prelude.{flat_map}
 use Rattle.ic_machine.specs.Refusal.{Site}

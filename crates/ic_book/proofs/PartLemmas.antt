@@ -6,7 +6,6 @@ use Rattle.ic_laws.proofs.core.Lists.{updated_seen}
 use Rattle.ic_laws.specs.CoreStep.{updated_at}
 use Rattle.ic_machine.specs.Book as machine
 use Rattle.ic_machine.specs.Book.{Stepped, on_sheet, on_tab, put_in, with_sheet}
-use Rattle.ic_machine.specs.Refusal.{InvalidSheet}
 use Rattle.ic_machine.specs.Reply.{Field}
 use Rattle.ic_machine.specs.Valid.{IsFrozen}
 use Rattle.ic_sheets.specs.Sheet.{Sheet, sheet_of}

@@ -9,7 +9,6 @@ use Rattle.ic_cells.specs.Style.{style_number, with_style_in}
 use Rattle.ic_cells.specs.declared.style.Style.{Style}
 use Rattle.ic_grid.specs.declared.grid.Grid.{Grid}
 use Rattle.ic_machine.specs.Refusal.{first_refusal}
-use Rattle.ic_machine.specs.Styling.{numbered}
 use Rattle.ic_sheets.specs.Sheet.{Sheet, sheet_of}
 use Rattle.ic_sheets.specs.declared.sheet.Sheet.{Sheet as HeldSheet}
 use Rattle.ic_parts.specs.Book.{IsValidBook, ModelState}
