@@ -97,7 +97,11 @@ pub extern "C" fn lurvetta_open(
     ensures tables { KeepsTables tables.old.held tables.new.held }
     ensures not_utf8 { result ≡ 4
         → ¬ AreUtf8 (name.now ∷ locale.now ∷ language.now ∷ zone.now ∷ []) }
+    ensures utf8 { result ≢ 4
+        → AreUtf8 (name.now ∷ locale.now ∷ language.now ∷ zone.now ∷ []) }
     ensures no_moment { result ≡ 8 → ¬ IsTimestampNanos (milliseconds *ℤ pos 1_000_000) }
+    ensures moment { result ≢ 4 → result ≢ 8
+        → IsTimestampNanos (milliseconds *ℤ pos 1_000_000) }
     ensures refused { (result ≡ 1) ⊎ IsRefusal result → NoBook (record {
       name = chars name.now;
       locale = chars locale.now;
