@@ -162,8 +162,8 @@ pub extern "C" fn lurvetta_answer(
 /// ends with a line feed, too.
 ///
 /// `OK`: the replies stand in `out`. `NO_ROOM`: all lines were answered, and the replies are kept for `lurvetta_copy`.
-/// `NO_MEMORY`: some of the first lines were answered, and the replies to these are kept. `NOT_OPEN`: the room has no book.
-/// `told` is the length of the replies that are kept then.
+/// `NO_MEMORY`: some of the first lines were answered, never all, and the replies to these are kept. `NOT_OPEN`: the room has
+/// no book. `told` is the length of the replies that are kept then.
 #[unsafe(no_mangle)]
 pub extern "C" fn lurvetta_run(
     alloc: Global,

@@ -114,7 +114,8 @@ impl Open {
         self.step(alloc, text_of(line))
     }
 
-    /// Answers the lines of the bytes. Where memory runs out some of the first were answered, and their replies are kept.
+    /// Answers the lines of the bytes. Where memory runs out some of the first were answered, never all, and their replies
+    /// are kept.
     pub fn run(&mut self, alloc: Global, bytes: &[u8]) -> Result<(), OutOfMemory>
         ensures ok { OnOk result (Answered (texts_of bytes.now) self.old self.new) }
         ensures err { OnErr result (AnsweredFirst (texts_of bytes.now) self.old self.new) }
