@@ -52,8 +52,8 @@ pub fn free_name(
     ensures { IfOk result (λ text. chars (string_bytes text) ≡ name_with name.now
         (free_among (map (λ s. s.name) sheets.now) (name_with name.now))) }
 {
-    let marks = marks_of(alloc, sheets, name)?;
     let mut text = String::new(alloc);
+    let marks = marks_of(alloc, sheets, ids, &mut text, name)?;
     let count = sheets.len() as u64;
     for passed in 0..count {
         let taken = is_number_taken(sheets, ids, &marks, &mut text, name, passed)?;
@@ -65,11 +65,26 @@ pub fn free_name(
     Ok(text)
 }
 
-/// Marks, from 0, for the numbers from 1: one is marked only where a sheet has the name with this number.
-fn marks_of(alloc: Global, sheets: &Sheets, name: &NumberedName) -> Result<Vec<bool>, OutOfMemory>
+/// A number with which a name is asked for first: where it is free, no name of a sheet is gone through.
+const FEW: u64 = 8;
+
+/// Marks, from 0, for the numbers from 1: one is marked only where a sheet has the name with this number. The text is
+/// written over.
+fn marks_of(
+    alloc: Global,
+    sheets: &Sheets,
+    ids: &BTreeMap<String, u32>,
+    text: &mut String,
+    name: &NumberedName,
+) -> Result<Vec<bool>, OutOfMemory>
+    requires { FindsSheets ids.now sheets.now }
     ensures { IfOk result (λ marks. AreMarked (name_with name.now) (map (λ s. s.name) sheets.now)
         marks.items) }
 {
+    put_name(text, name, FEW)?;
+    if !sheets.is_taken(ids, text.as_str()) {
+        return Ok(Vec::new(alloc));
+    }
     match name {
         NumberedName::Word(base) => sheets.marked_numbers(base),
         NumberedName::Copy(_) => Ok(Vec::new(alloc)),
