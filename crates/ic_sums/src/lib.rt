@@ -6,7 +6,6 @@
 //! source leave, and is what the program does with its words.
 #![tactic(auto)]
 
-mod cells;
 mod desk;
 mod evaluation;
 mod tree;
