@@ -20,7 +20,7 @@ use Rattle.ic_machine.specs.Content.{AnchorContent, BoolContent, Content, EmptyC
 use Rattle.ic_machine.specs.Refusal.{InvalidSheet, Refusal}
 use Rattle.ic_machine.specs.Reply.{Field}
 use Rattle.ic_machine.specs.subjects.Arrays.{PutFormulaValue, arrays_step, put_value_step, with_grid_contents}
-use Rattle.ic_sums.specs.Evaluated.{OnlyValues, is_plain, unvalued, unvalued_sheet, without_values}
+use Rattle.ic_sums.specs.Evaluated.{OnlyValues, held_at, is_plain, unvalued, unvalued_sheet, without_values}
 
 -- one content ----
 
@@ -104,6 +104,14 @@ module _ {X Y : Type 0} (P : Option Y → Type 0) (f : X → Option Y) where
 
 pub only_itself : (b : Book) → OnlyValues b b
 only_itself b = record { cells = λ index place plain. refl; rest = refl }
+
+pub only_both : (b c d : Book) → OnlyValues b c → OnlyValues c d → OnlyValues b d
+only_both b c d one other = record {
+  cells = λ index place plain.
+      let first : held_at c index place ≡ held_at b index place = one.cells index place plain in
+      other.cells index place (ap is_plain first ∙ plain) ∙ first;
+  rest = other.rest ∙ one.rest;
+}
 
 -- what a step leaves of a book, if it isn't refused
 abbrev LeavesAll : Book → Stepped Book → Type 0

@@ -1,57 +1,55 @@
 //! The value of a formula, by those of the cells that it needs.
 
-use crate::evaluation::{Mark, Place};
 use crate::value::{ONE, combined, error, number};
 use ic_book::{BookError, Model};
 use ic_cells::{CellType, CellValue, FormulaValue};
 use ic_input::error_at;
 use ic_laws::{
-    BinarySign, Bound, Boxed, Error, Formula, LAST_COLUMN, LAST_ROW, NameKey, NameMention,
+    BinarySign, Bound, Boxed, Error, Formula, NameKey, NameMention, OutOfMemory,
     Place as Reference, Position, PrefixSign, RefPart, SheetMention, Tree, WordKind,
 };
+use ic_refs::{is_valid_column_number, is_valid_row};
 use ic_tables::{find_word, word};
 use std::alloc::Global;
 use std::collections::BTreeMap;
 
-/// What a formula gives, or why nothing.
-type Gives = Result<FormulaValue, BookError>;
+/// The index of a sheet, from 0, and a row and a column, from 1.
+pub(crate) type Place = (u32, i32, i32);
+
+/// What is known of a cell: nothing, that its formula waits for others, or that the book has its value.
+#[derive(Clone, Copy)]
+pub(crate) enum Mark {
+    New,
+    Waits,
+    Known,
+}
 
 /// What a formula is evaluated by: the book, its place, what is known of the cells, and where those go that it needs first.
 #[derive(Drop)]
-struct Evaluator<'b, 'm> {
-    alloc: Global,
-    model: &'b Model<'m>,
-    at: Place,
-    marks: &'b BTreeMap<Place, Mark>,
-    path: &'b mut Vec<Place>,
+pub(crate) struct Evaluator<'b, 'm> {
+    pub alloc: Global,
+    pub model: &'b Model<'m>,
+    pub at: Place,
+    pub marks: &'b BTreeMap<Place, Mark>,
+    pub path: &'b mut Vec<Place>,
 }
 
-/// The value of the formula in the cell at a place, if it has one whose value isn't known. Cells that are needed first are put
-/// behind `path`; the value counts for nothing then.
-pub(crate) fn value_at(
-    alloc: Global,
-    model: &Model<'_>,
-    at: Place,
-    marks: &BTreeMap<Place, Mark>,
-    path: &mut Vec<Place>,
-) -> Result<Option<FormulaValue>, BookError> {
-    match (marks.get(&at), model.formula_at(at.0, at.1, at.2)?) {
-        (Some(Mark::Known), _) | (_, None) => Ok(None),
-        (_, Some(Formula::Raw(_))) => Ok(Some(error(Error::ERROR))),
-        (_, Some(Formula::Tree(tree))) => {
-            let mut evaluator = Evaluator {
-                alloc,
-                model,
-                at,
-                marks,
-                path,
-            };
-            Ok(Some(evaluator.value(tree, false)?))
-        }
-    }
-}
+/// The value that a formula or a part of one gives, where memory doesn't run out.
+type Gives = Result<FormulaValue, OutOfMemory>;
 
 impl<'b, 'm> Evaluator<'b, 'm> {
+    /// The value of the formula in the cell, if it has one that isn't known. Where it needs others first, they are put at the end
+    /// of the path, and the value counts for nothing.
+    pub(crate) fn formula(mut self) -> Result<Option<FormulaValue>, OutOfMemory> {
+        let found = self.model.formula_at(self.at.0, self.at.1, self.at.2);
+        match (self.marks.get(&self.at), found) {
+            (Some(Mark::Known), _) => Ok(None),
+            (_, Ok(Some(Formula::Tree(tree)))) => Ok(Some(self.value(tree, false)?)),
+            (_, Ok(Some(Formula::Raw(_)))) => Ok(Some(error(Error::ERROR))),
+            _ => Ok(None),
+        }
+    }
+
     /// What a tree gives; where it is summed, the sum of the numbers in an area.
     #[cycle(value)]
     fn value(&mut self, tree: &Bound, summed: bool) -> Gives {
@@ -143,24 +141,33 @@ impl<'b, 'm> Evaluator<'b, 'm> {
             Reference::Cell(part) => (part, part),
             Reference::Range(first, last) => (first, last),
         };
-        match (sheet, corner(at, first), corner(at, last)) {
-            (Some(sheet), Some(a), Some(b)) if summed => self.total(sheet, a, b),
-            (Some(sheet), Some(a), Some(b)) if a == b => self.cell((sheet, a.0, a.1)),
-            (Some(_), Some(_), Some(_)) => Ok(error(Error::VALUE)),
+        match (corner(at, sheet, first), corner(at, sheet, last)) {
+            (Some(a), Some(b)) if summed || a == b => self.between(a, b, summed),
+            (Some(_), Some(_)) => Ok(error(Error::VALUE)),
             _ => Ok(error(Error::REF)),
         }
     }
 
-    /// The sum of the numbers in the area of a sheet between two corners.
-    fn total(&mut self, sheet: u32, a: (i32, i32), b: (i32, i32)) -> Gives {
+    /// The sum of the numbers between two corners, or what their one cell gives. A cell that isn't known is needed first, or
+    /// stands in a circle with this one if it waits.
+    fn between(&mut self, a: Place, b: Place, summed: bool) -> Gives {
         let mut total = number(Some(0));
         let marks = self.marks;
-        for (place, _) in marks.range((sheet, a.0.min(b.0), 1)..) {
-            if place.0 != sheet || place.1 > a.0.max(b.0) {
+        for (place, mark) in marks.range((a.0, a.1.min(b.1), a.2.min(b.2))..) {
+            if place.0 != a.0 || place.1 > a.1.max(b.1) {
                 break;
             }
-            if place.2 >= a.1.min(b.1) && place.2 <= a.1.max(b.1) {
-                let value = self.cell(*place)?;
+            if a.2.min(b.2) <= place.2 && place.2 <= a.2.max(b.2) {
+                let value = match mark {
+                    Mark::Known => self.held(*place)?,
+                    _ => error(Error::CIRC),
+                };
+                if let Mark::New = mark {
+                    self.path.push(*place)?;
+                }
+                if !summed {
+                    return Ok(value);
+                }
                 if let FormulaValue::Number(_) | FormulaValue::Error { .. } = &value {
                     total = combined(BinarySign::Plus, &total, &value);
                 }
@@ -169,60 +176,45 @@ impl<'b, 'm> Evaluator<'b, 'm> {
         Ok(total)
     }
 
-    /// The value of the cell at a place. A cell that wasn't looked at is needed first, and one that waits stands in a circle.
-    fn cell(&mut self, place: Place) -> Gives {
-        match self.marks.get(&place) {
-            Some(Mark::New) => {
-                self.path.push(place)?;
-                Ok(error(Error::CIRC))
-            }
-            Some(Mark::Waits) => Ok(error(Error::CIRC)),
-            _ => self.held(place),
-        }
-    }
-
     /// The value that the book holds at a place.
-    fn held(&self, place: Place) -> Gives {
-        match self
-            .model
-            .get_cell_value_by_index(place.0, place.1, place.2)?
-        {
-            CellValue::None => Ok(number(Some(0))),
-            CellValue::Number(amount) => Ok(FormulaValue::Number(amount)),
-            CellValue::Boolean(truth) => Ok(FormulaValue::Boolean(truth)),
-            CellValue::String(text) => match self.model.get_cell_type(place.0, place.1, place.2)? {
-                CellType::ErrorValue => Ok(error(self.error_named(text.as_str())?)),
-                _ => Ok(FormulaValue::Text(Boxed::new(self.alloc, text)?)),
+    fn held(&self, at: Place) -> Gives {
+        match &self.model.get_cell_value_by_index(at.0, at.1, at.2) {
+            Ok(CellValue::Number(amount)) => Ok(FormulaValue::Number(*amount)),
+            Ok(CellValue::Boolean(truth)) => Ok(FormulaValue::Boolean(*truth)),
+            Ok(CellValue::String(text)) => match self.model.get_cell_type(at.0, at.1, at.2) {
+                Ok(CellType::ErrorValue) => Ok(error(self.error_named(text.as_str())?)),
+                _ => Ok(FormulaValue::Text(Boxed::from_str(self.alloc, text.as_str())?)),
             },
+            Err(BookError::OutOfMemory) => Err(OutOfMemory),
+            _ => Ok(number(Some(0))),
         }
     }
 
     /// The error of a word in the language in force.
-    fn error_named(&self, word: &str) -> Result<Error, BookError> {
-        let code = self.model.get_language()?;
-        let number = match self.model.tables().get_language(code.as_str()) {
-            Ok(language) => find_word(language, WordKind::Error, word),
-            Err(_) => None,
+    fn error_named(&self, word: &str) -> Result<Error, OutOfMemory> {
+        let Ok(code) = self.model.get_language() else {
+            return Err(OutOfMemory);
         };
-        Ok(number.and_then(error_at).unwrap_or(Error::ERROR))
+        let language = self.model.tables().get_language(code.as_str()).ok();
+        let number = language.and_then(|it| find_word(it, WordKind::Error, word));
+        Ok(number.and_then(|n| error_at(n)).unwrap_or(Error::ERROR))
     }
 }
 
-/// The row and the column of a corner of a reference in a cell, if they are in the sheet.
-fn corner(at: Place, part: RefPart) -> Option<(i32, i32)> {
-    let row = line(at.1, part.row, LAST_ROW)?;
-    let column = line(at.2, part.column, LAST_COLUMN)?;
-    Some((row, column))
+/// The place of a corner of a reference in a cell to a sheet, if there is such a sheet and it has the place.
+fn corner(at: Place, sheet: Option<u32>, part: RefPart) -> Option<Place> {
+    let (row, column) = (line(at.1, part.row)?, line(at.2, part.column)?);
+    if is_valid_row(row) && is_valid_column_number(column) {
+        Some((sheet?, row, column))
+    } else {
+        None
+    }
 }
 
-/// The row or the column of a position, up to the last one.
-fn line(from: i32, position: Position, last: i32) -> Option<i32> {
-    let line = match position {
-        Position::Abs(line) => line,
-        Position::Rel(by) => from.checked_add(by)?,
-    };
-    if line < 1 || line > last {
-        return None;
+/// The row or the column of a position.
+fn line(from: i32, position: Position) -> Option<i32> {
+    match position {
+        Position::Abs(line) => Some(line),
+        Position::Rel(by) => from.checked_add(by),
     }
-    Some(line)
 }
