@@ -67,8 +67,8 @@ uint8_t lurvetta_answer(lurvetta_book *book, const uint8_t *line, size_t line_le
 /* Answers lines, one after another: each ends with a line feed, before which a carriage return is no part of it, and the last
  * one may end with the bytes. There is one reply a line, in their order.
  *
- * As lurvetta_answer, with all replies; but with LURVETTA_NO_MEMORY some of the first lines were answered, as many as there
- * are replies, `out` is as it was, and lurvetta_copy gives these. */
+ * As lurvetta_answer, with all replies; but with LURVETTA_NO_MEMORY some of the first lines were answered, never all, as many
+ * as there are replies, `out` is as it was, and lurvetta_copy gives these. */
 uint8_t lurvetta_run(lurvetta_book *book, const uint8_t *lines, size_t lines_len, uint8_t *out, size_t out_len, size_t *told);
 
 /* Copies the reply that is kept: that of the last lurvetta_answer or lurvetta_run, as often as it is asked to.

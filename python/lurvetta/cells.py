@@ -22,10 +22,10 @@ class Cells:
     """What stands in cells."""
 
     def _write(self, command: str, sheet: int, row: int, column: int, word: str) -> None:
-        self._command(command, number(sheet), number(row), number(column), word)
+        self._command(f"{command}\t{sheet:d}\t{row:d}\t{column:d}\t{word}")
 
     def _read(self, command: str, sheet: int, row: int, column: int) -> list[str]:
-        return self._command(command, number(sheet), number(row), number(column))
+        return self._command(f"{command}\t{sheet:d}\t{row:d}\t{column:d}")
 
     def set_user_input(self, sheet: int, row: int, column: int, text: str) -> None:
         """Writes what a user types; nothing typed empties the cell.

@@ -16,6 +16,8 @@ _ROOM = 4096
 # The largest room that is kept for the next reply.
 _MOST_KEPT = 1 << 20
 
+_answer, _run = library.lurvetta_answer, library.lurvetta_run
+
 _EPOCH = datetime(1970, 1, 1, tzinfo=timezone.utc)
 
 
@@ -24,15 +26,13 @@ class Handle:
 
     def __init__(self, name: str, locale: str, language: str, zone: str, moment: datetime | None) -> None:
         self._lock = threading.Lock()
-        self._room = Room()
-        self._told = ctypes.c_size_t()
-        self._at = ctypes.addressof(self._room)
-        self._told_at = ctypes.addressof(self._told)
+        self._room, self._given, self._told = Room(), ctypes.c_size_t(), ctypes.c_size_t()
+        self._room_at, self._told_at = ctypes.byref(self._room), ctypes.byref(self._told)
         self._make_out(_ROOM)
         words = [it.encode() for it in (name, locale, language, zone)]
         with tables_lock:
             status = library.lurvetta_open(
-                self._at, ctypes.addressof(tables), *(part for it in words for part in (it, len(it))), _milliseconds(moment)
+                self._room_at, ctypes.byref(tables), *(part for it in words for part in (it, len(it))), _milliseconds(moment)
             )
         if status == NO_MEMORY:
             raise WantOfMemory
@@ -43,27 +43,28 @@ class Handle:
         self._name = name
 
     def _make_out(self, size: int) -> None:
-        self._out = ctypes.create_string_buffer(size)
-        self._out_at = ctypes.addressof(self._out)
-        self._out_len = size
-        self._view = memoryview(self._out).cast("B")
+        self._out, self._out_len = ctypes.create_string_buffer(size), ctypes.c_size_t(size)
+        self._out_at = ctypes.byref(self._out)
 
-    def _ask(self, call, given: bytes) -> tuple[int, str]:
-        """The status of a call that answers lines, and the reply that it leaves."""
+    def _ask(self, call, given: bytes) -> bytes:
+        """The replies that a call leaves which answers lines."""
         with self._lock:
-            status = call(self._at, given, len(given), self._out_at, self._out_len, self._told_at)
+            self._given.value = len(given)
+            status = call(self._room_at, given, self._given, self._out_at, self._out_len, self._told_at)
             length = self._told.value
             if status == OK:
-                return OK, str(self._view[:length], "utf-8")
+                return self._out[:length]
             if status == NOT_OPEN:
                 raise Closed
-            if length > self._out_len:
+            if length > self._out_len.value:
                 self._make_out(length)
-            library.lurvetta_copy(self._at, self._out_at, self._out_len, self._told_at)
-            reply = str(self._view[:length], "utf-8")
-            if self._out_len > _MOST_KEPT:
+            library.lurvetta_copy(self._room_at, self._out_at, self._out_len, self._told_at)
+            replies = self._out[:length]
+            if self._out_len.value > _MOST_KEPT:
                 self._make_out(_ROOM)
-            return (OK if status == NO_ROOM else status), reply
+        if status == NO_MEMORY:
+            raise WantOfMemory(_lines(replies))
+        return replies
 
     def answer(self, line: str) -> str:
         r"""The reply to a command line, without the line feed that ends it.
@@ -72,10 +73,7 @@ class Handle:
         >>> Book().answer("get_locale")
         'ok\ten'
         """
-        status, reply = self._ask(library.lurvetta_answer, line.encode())
-        if status == NO_MEMORY:
-            raise WantOfMemory
-        return reply[:-1]
+        return self._ask(_answer, str.encode(line))[:-1].decode()
 
     def run(self, lines: Iterable[str]) -> list[str]:
         """The replies to command lines, in one call. No line has a line feed in it.
@@ -86,33 +84,27 @@ class Handle:
         for line in lines:
             if "\n" in line:
                 raise ValueError(f"a line feed stands in {line!r}")
-        status, replies = self._ask(library.lurvetta_run, "".join(f"{line}\r\n" for line in lines).encode())
-        told = replies.split("\n")[:-1]
-        if status == NO_MEMORY:
-            raise WantOfMemory(told)
-        return told
+        return _lines(self._ask(_run, "".join(f"{line}\r\n" for line in lines).encode()))
 
     def run_bytes(self, lines: bytes) -> bytes:
         """The replies to the lines of a file, as the program of command lines writes them."""
-        status, replies = self._ask(library.lurvetta_run, lines)
-        if status == NO_MEMORY:
-            raise WantOfMemory(replies.split("\n")[:-1])
-        return replies.encode()
+        return self._ask(_run, bytes(memoryview(lines)))
 
     def _command(self, *words: str) -> list[str]:
-        """The fields of the reply to a command."""
-        reply = self.answer("\t".join(words))
-        if reply == "ok":
+        """The fields of the reply to a command, whose words may be joined by tabs."""
+        told = self._ask(_answer, "\t".join(words).encode())
+        if told == b"ok\n":
             return []
+        reply = told[:-1].decode()
         kind, *fields = reply.split("\t")
         if kind == "error":
             raise Refused(fields[0])
-        return [unescaped(it) for it in fields]
+        return [unescaped(it) for it in fields] if "\\" in reply else fields
 
     def close(self) -> None:
         """Closes the book and frees it. It may be called again."""
         with self._lock:
-            library.lurvetta_close(self._at)
+            library.lurvetta_close(self._room_at)
 
     def __enter__(self):
         return self
@@ -121,8 +113,12 @@ class Handle:
         self.close()
 
     def __del__(self) -> None:
-        if hasattr(self, "_told_at"):
-            library.lurvetta_close(self._at)
+        if hasattr(self, "_out_at"):
+            library.lurvetta_close(self._room_at)
+
+
+def _lines(replies: bytes) -> list[str]:
+    return replies.decode().split("\n")[:-1]
 
 
 def _milliseconds(moment: datetime | None) -> int:

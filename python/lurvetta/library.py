@@ -37,17 +37,14 @@ def _path() -> str:
 
 def _load() -> ctypes.CDLL:
     library = ctypes.CDLL(_path())
-    at, size = ctypes.c_void_p, ctypes.c_size_t
-    text = [ctypes.c_char_p, size]
-    for name, arguments, answer in (
-        ("open", [at, at, *text, *text, *text, *text, ctypes.c_int64], ctypes.c_uint8),
-        ("close", [at], None),
-        ("answer", [at, *text, at, size, at], ctypes.c_uint8),
-        ("run", [at, *text, at, size, at], ctypes.c_uint8),
-        ("copy", [at, at, size, at], ctypes.c_uint8),
-    ):
-        call = getattr(library, f"lurvetta_{name}")
-        call.argtypes, call.restype = arguments, answer
+    at, text = ctypes.c_void_p, [ctypes.c_char_p, ctypes.c_size_t]
+    library.lurvetta_open.argtypes = [at, at, *text, *text, *text, *text, ctypes.c_int64]
+    library.lurvetta_close.argtypes = [at]
+    library.lurvetta_close.restype = None
+    # The calls that follow have no argtypes, since to convert six arguments takes longer than a call: they are handed what
+    # needs no conversion alone, which is bytes, what byref gives, and sizes as c_size_t.
+    for name in ("open", "answer", "run", "copy"):
+        getattr(library, f"lurvetta_{name}").restype = ctypes.c_uint8
     return library
 
 

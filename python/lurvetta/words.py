@@ -8,12 +8,13 @@ from .values import ErrorValue, Style
 
 _SPELLED = str.maketrans({"\\": "\\\\", "\t": "\\t", "\n": "\\n", "\r": "\\r"})
 _MEANT = {"\\\\": "\\", "\\t": "\t", "\\n": "\n", "\\r": "\r"}
+_SPECIAL = re.compile(r"[\\\t\n\r]")
 _ESCAPE = re.compile(r"\\[\\tnr]")
 
 
 def escaped(text: str) -> str:
     """A text as it is written in a word."""
-    return text.translate(_SPELLED)
+    return text.translate(_SPELLED) if _SPECIAL.search(text) else text
 
 
 def unescaped(word: str) -> str:

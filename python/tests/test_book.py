@@ -182,6 +182,10 @@ def test_large_replies_and_odd_texts():
             book.run(["a\nb"])
         with pytest.raises(TypeError):
             book.update_cell_with_number(0, 1, 1, 1.5)
+        for call, given in ((book.answer, b"get_theme"), (book.answer, None), (book.run_bytes, "get_theme"), (book.run_bytes, 9)):
+            with pytest.raises(TypeError):
+                call(given)
+        assert book.run_bytes(bytearray(b"get_locale")) == b"ok\ten\n" and book.answer("get_locale\x00") == "error\tBadLine"
         assert book.run([]) == [] and book.run(["\r", "no"]) == ["error\tBadLine"] * 2
         assert book.run_bytes(b"\xff\nget_theme") == b"error\tBadLine\nok\t\n"
 

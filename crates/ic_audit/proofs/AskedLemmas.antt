@@ -9,11 +9,11 @@ use Rattle.ic_laws.specs.CoreStep.{index_of_name}
 use Rattle.ic_laws.specs.Refusal.{Refusal}
 use Rattle.ic_machine.specs.Refusal.{Site}
 use Rattle.ic_machine.specs.Sites.{name_sites_refusal, sites_of_name_in, sites_of_sheet_at}
-use Rattle.ic_book.proofs.WholeLemmas.{whole_core}
-use Rattle.ic_book.specs.Book.{Book, core_of}
-use Rattle.ic_book.specs.Sites.{site_of}
-use Rattle.ic_book.specs.Whole.{whole_of}
-use Rattle.ic_book.specs.declared.sites.MentionSite.{MentionSite}
+use Rattle.ic_parts.proofs.WholeLemmas.{whole_core}
+use Rattle.ic_parts.specs.Book.{Book, core_of}
+use Rattle.ic_parts.specs.Sites.{site_of}
+use Rattle.ic_parts.specs.Whole.{whole_of}
+use Rattle.ic_parts.specs.declared.sites.MentionSite.{MentionSite}
 use Rattle.ic_run.specs.Desk.{texts}
 use Rattle.ic_audit.specs.Asked.{OfName, OfSheet, question_of, sites_asked}
 use Rattle.ic_audit.specs.Refused.{Tells}

@@ -5,9 +5,9 @@ use Rattle.ic_tables.specs.Tables.{TableSet}
 use Rattle.ic_cells.specs.declared.workbook.Metadata.{Metadata}
 use Rattle.ic_machine.specs.Book.{Book}
 use Rattle.ic_machine.proofs.MetadataFree.{with_metadata}
-use Rattle.ic_book.specs.Book as held
-use Rattle.ic_book.specs.Book.{metadata_made}
-use Rattle.ic_book.specs.Whole.{whole_of}
+use Rattle.ic_parts.specs.Book as held
+use Rattle.ic_parts.specs.Book.{metadata_made}
+use Rattle.ic_parts.specs.Whole.{whole_of}
 use Rattle.ic_run.specs.Make.{made_start}
 use Rattle.ic_run.proofs.MomentLemmas.{after_anytime}
 use Rattle.ic_run.specs.Prepared.{IsBookAfter, book_after}

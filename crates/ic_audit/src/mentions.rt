@@ -1,10 +1,10 @@
 //! Who mentions a sheet or a definition of a book.
 ghost use Rattle.std.specs.Prelude.{◌≡◌, IfOk, chars, is_none, map};
 ghost use Rattle.ic_machine.specs.Sites.{name_sites_refusal, sheet_sites_refusal, sites_of_name_in, sites_of_sheet_at};
-ghost use Rattle.ic_book.specs.Book.{core_of};
-ghost use Rattle.ic_book.specs.Refused.{refusal_of};
-ghost use Rattle.ic_book.specs.Sites.{site_of};
-ghost use Rattle.ic_book.specs.Whole.{whole_of};
+ghost use Rattle.ic_parts.specs.Book.{core_of};
+ghost use Rattle.ic_parts.specs.Refused.{refusal_of};
+ghost use Rattle.ic_parts.specs.Sites.{site_of};
+ghost use Rattle.ic_parts.specs.Whole.{whole_of};
 ghost use Rattle.ic_audit.specs.Refused.{Tells};
 
 use crate::AuditError;

@@ -3,7 +3,7 @@ ghost use Rattle.std.specs.Prelude.{◌≡◌, ◌++◌, ◌∷◌, IfOk, OnOk, 
 ghost use Rattle.std.specs.Fmt.{decimal, signed_decimal};
 ghost use Rattle.ic_laws.specs.Character.{tab};
 ghost use Rattle.ic_machine.specs.Refusal.{CellSite, DefinitionSite};
-ghost use Rattle.ic_book.specs.Sites.{site_of};
+ghost use Rattle.ic_parts.specs.Sites.{site_of};
 ghost use Rattle.ic_audit.specs.Listed.{site_line, told_scope};
 
 use ic_book::MentionSite;

@@ -16,18 +16,18 @@ use Rattle.ic_sheets.proofs.RewritingLemmas.{sheet_there}
 use Rattle.ic_sheets.specs.Rewriting.{look_ups}
 use Rattle.ic_sheets.specs.Sheet.{Sheet, sheet_of}
 use Rattle.ic_sheets.specs.declared.sheet.Sheet.{Sheet as HeldSheet}
-use Rattle.ic_book.specs.declared.contents.Contents.{Contents}
+use Rattle.ic_parts.specs.declared.contents.Contents.{Contents}
 use Rattle.ic_book.specs.declared.model.Model.TheInside.{Inside}
-use Rattle.ic_book.specs.Book.{Book, IsValidBook, ModelState, core_of, notations_in, whole_of}
-use Rattle.ic_book.specs.Change.{book_changed_by}
-use Rattle.ic_book.specs.Copied.{HasCopy, LooksUpCopied, definitions_copied, sheet_copied, whole_source, with_copied_sheet}
+use Rattle.ic_parts.specs.Book.{Book, IsValidBook, ModelState, core_of, notations_in, whole_of}
+use Rattle.ic_parts.specs.Change.{book_changed_by}
+use Rattle.ic_changes.specs.Copied.{HasCopy, LooksUpCopied, definitions_copied, sheet_copied, whole_source, with_copied_sheet}
 use Rattle.ic_book.specs.Inside.{IsHeld, held, held_state, with_contents}
-use Rattle.ic_book.specs.LookUps.{looks_up_in}
-use Rattle.ic_book.specs.SheetNames.{free_among}
+use Rattle.ic_changes.specs.LookUps.{looks_up_in}
+use Rattle.ic_parts.specs.SheetNames.{free_among}
 use Rattle.ic_book.proofs.CopiedHeld.{copied_is, held_at, held_free, held_fresh, held_id, held_unscoped}
-use Rattle.ic_book.proofs.CopiedSteps.{valid_then}
-use Rattle.ic_book.proofs.HeldLemmas.{none_at, read_is}
-use Rattle.ic_book.proofs.LookUpLemmas.{looks_up_is}
+use Rattle.ic_changes.proofs.CopiedSteps.{valid_then}
+use Rattle.ic_parts.proofs.HeldLemmas.{none_at, read_is}
+use Rattle.ic_changes.proofs.LookUpLemmas.{looks_up_is}
 use Rattle.ic_book.proofs.NewSheetLemmas.{copy_name_of}
 
 same_some : {X : Type 0} (x y : X) → (let o : Option X = Some x in o ≡ Some y) → x ≡ y

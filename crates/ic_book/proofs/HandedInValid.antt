@@ -16,16 +16,16 @@ use Rattle.ic_machine.specs.Content.{Content}
 use Rattle.ic_machine.specs.Valid as valid
 use Rattle.ic_sheets.specs.Sheet.{Sheet, sheet_of}
 use Rattle.ic_sheets.specs.declared.sheet.Sheet.{Sheet as HeldSheet}
-use Rattle.ic_book.specs.Book.{HasString, HasStrings, NotationState, whole_of, whole_sheet}
-use Rattle.ic_book.specs.Filled.{AreFilled, filled}
-use Rattle.ic_book.specs.HandedIn.{MeetsAll, Strings, book_of, definition_of, notation_refusal, scene_of}
-use Rattle.ic_book.specs.HandedIn as handed_in
+use Rattle.ic_parts.specs.Book.{HasString, HasStrings, NotationState, whole_of, whole_sheet}
+use Rattle.ic_workbooks.specs.Filled.{AreFilled, filled}
+use Rattle.ic_workbooks.specs.HandedIn.{MeetsAll, Strings, book_of, definition_of, notation_refusal, scene_of}
+use Rattle.ic_workbooks.specs.HandedIn as handed_in
 use Rattle.ic_book.specs.Inside.{IsHeld, held}
-use Rattle.ic_book.specs.Numbered.{AreNumbered, renumbered}
-use Rattle.ic_book.specs.declared.about.About.{About}
+use Rattle.ic_workbooks.specs.Numbered.{AreNumbered, renumbered}
+use Rattle.ic_parts.specs.declared.about.About.{About}
 use Rattle.ic_book.specs.declared.model.Model.TheInside.{Inside}
-use Rattle.ic_book.proofs.AcceptedWorkbook.{accepted_valid}
-use Rattle.ic_book.proofs.NumberedLemmas.{seen_told, string_there}
+use Rattle.ic_workbooks.proofs.AcceptedWorkbook.{accepted_valid}
+use Rattle.ic_workbooks.proofs.NumberedLemmas.{seen_told, string_there}
 
 -- a model holds what the records of a workbook hold, in a language, with these numbers of shared strings
 pub record HoldsRecords (w : Workbook) (language : List ℕ) (tables : TableSet) (numbers : List ℕ) (inside : Inside) : Type 0 where

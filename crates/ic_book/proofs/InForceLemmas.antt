@@ -1,22 +1,16 @@
 -- What the notation that a model holds makes of texts.
-use Rattle.std.proofs.Common.{◌≡◌, ℕ, ℤ, List, Option, Some, None, codes, option_map, ap, subst, ◌∙◌}
-use Rattle.ic_laws.specs.Dialect.{DialectMeaning}
+use Rattle.std.proofs.Common.{◌≡◌, ℕ, List, Option, Some, None, codes, ap, ◌∙◌}
 use Rattle.ic_laws.specs.Notations.{english}
-use Rattle.ic_tables.specs.Formats.{decimal_separator}
-use Rattle.ic_tables.specs.Tables.{TableSet, language_of, locale_of}
+use Rattle.ic_tables.specs.Tables.{language_of, locale_of}
 use Rattle.ic_tables.specs.declared.language.Language.{Language}
-use Rattle.ic_tables.specs.declared.locale.Locale.{Locale}
 use Rattle.ic_tables.specs.declared.locale.NamedLocale.{NamedLocale}
-use Rattle.ic_tree.proofs.NotationLaws.{shown_notation}
-use Rattle.ic_tree.specs.Notations.{notations_of}
-use Rattle.ic_tree.specs.Shown.{list_separator, shown_meaning}
 use Rattle.ic_input.specs.Typed.{formula_of, typed}
 use Rattle.ic_input.specs.declared.input.Typed.TheVariants as kinds
 use Rattle.ic_machine.specs.InForce.{InForce, all_there, by_notation, formula_typed, in_force, typed_in}
-use Rattle.ic_book.specs.Book.{whole_of}
+use Rattle.ic_parts.specs.Book.{whole_of}
 use Rattle.ic_book.specs.Inside.{IsHeld, held}
 use Rattle.ic_book.specs.declared.model.Model.TheInside.{Inside}
-use Rattle.ic_book.proofs.WholeWritten.{english_there, language_there}
+use Rattle.ic_parts.proofs.WholeWritten.{english_there, language_there}
 
 module _ (inside : Inside) (locale : NamedLocale) (language beside : Language) (locale_found : locale_of inside.notation.tables inside.notation.locale ≡ Some locale) (language_found : language_of inside.notation.tables inside.notation.language ≡ Some language)
     (english_found : language_of inside.notation.tables (codes "en") ≡ Some beside)
@@ -39,10 +33,3 @@ formula_is inside h locale found text =
     let language = language_there (held inside) h in
     let beside = english_there (held inside) h in
     formula_so inside locale language.0 beside.0 found language.1 beside.1 text
-
--- how formulas are written by a locale and a language of the tables
-pub shown_by : (t tables : TableSet) → t ≡ tables → (locale_id language_id : List ℕ) (locale : Locale) (language : Language) (row column : ℤ) (meaning : DialectMeaning) → option_map (λ n. n.locale) (locale_of tables locale_id) ≡ Some locale → language_of tables language_id ≡ Some language
-    → option_map (λ e. shown_meaning language e (list_separator locale) (decimal_separator locale) row column) (language_of t (codes "en")) ≡ Some meaning → meaning ≡ (notations_of tables).shown locale_id language_id row column
-shown_by t tables same locale_id language_id locale language row column meaning by_locale by_language h =
-    shown_notation tables locale_id language_id locale language row column meaning by_locale by_language
-    (subst (λ (t : TableSet). option_map (λ e. shown_meaning language e (list_separator locale) (decimal_separator locale) row column) (language_of t (codes "en")) ≡ Some meaning) same h)

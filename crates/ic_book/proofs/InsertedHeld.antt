@@ -23,15 +23,16 @@ use Rattle.ic_sheets.specs.Rewriting.{changed_pool, sheets_of}
 use Rattle.ic_sheets.specs.Sheet.{Sheet, empty_grid, plain_tab, sheet_of}
 use Rattle.ic_sheets.specs.declared.sheet.Sheet.{Sheet as HeldSheet}
 use Rattle.ic_book.specs.declared.model.Model.TheInside.{Inside}
-use Rattle.ic_book.specs.Book.{Book, core_of, notations_in, whole_of, whole_sheet}
-use Rattle.ic_book.specs.Change.{book_changed_by, with_inserted_sheet}
+use Rattle.ic_parts.specs.Book.{Book, core_of, notations_in, whole_of, whole_sheet}
+use Rattle.ic_parts.specs.Change.{book_changed_by, with_inserted_sheet}
 use Rattle.ic_book.specs.Inside.{IsHeld, held, with_contents}
-use Rattle.ic_book.specs.Mentioned.{BindsInserted}
-use Rattle.ic_book.proofs.BookLemmas.{core_of-changed, inserted_change}
-use Rattle.ic_book.proofs.BookValid.{core_valid, inserted_valid, notations, pools_valid}
-use Rattle.ic_book.proofs.ChangeLemmas.{inserted_is}
-use Rattle.ic_book.proofs.HeldLemmas.{after, held_after, seen_ids, seen_names}
-use Rattle.ic_book.proofs.WholeLemmas.{whole_core}
+use Rattle.ic_parts.specs.Mentioned.{BindsInserted}
+use Rattle.ic_parts.proofs.BookLemmas.{core_of-changed, inserted_change}
+use Rattle.ic_parts.proofs.BookValid.{core_valid, inserted_valid, notations, pools_valid}
+use Rattle.ic_parts.proofs.ChangeLemmas.{inserted_is}
+use Rattle.ic_book.proofs.HeldLemmas.{after, held_after}
+use Rattle.ic_parts.proofs.HeldLemmas.{seen_ids, seen_names}
+use Rattle.ic_parts.proofs.WholeLemmas.{whole_core}
 
 -- an id of 32 bits is one that a word can say
 pub says_id : (id : ℕ) → id < 2 ^ 32 → is_given_id (Some id) ≡ true

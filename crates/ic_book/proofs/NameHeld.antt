@@ -14,17 +14,17 @@ use Rattle.ic_definitions.specs.Bodies.{StaysWhereFound}
 use Rattle.ic_definitions.specs.Named.{definitions_scene}
 use Rattle.ic_sheets.specs.Rewriting.{changed_pool, look_ups, looks_up_after, sheets_of}
 use Rattle.ic_sheets.specs.declared.sheet.Sheet.{Sheet as HeldSheet}
-use Rattle.ic_book.specs.Book.{Book, IsValidBook, ModelState, core_of, notations_in}
-use Rattle.ic_book.specs.Change.{book_changed_by, with_added_definition, with_removed_definition}
+use Rattle.ic_parts.specs.Book.{Book, IsValidBook, ModelState, core_of, notations_in}
+use Rattle.ic_parts.specs.Change.{book_changed_by, with_added_definition, with_removed_definition}
 use Rattle.ic_book.specs.declared.model.Model.TheInside.{Inside}
 use Rattle.ic_book.specs.Inside.{IsHeld, held, held_state, with_contents}
-use Rattle.ic_book.specs.LookUps.{looks_up_in}
-use Rattle.ic_book.proofs.BookLemmas.{core_of-changed, defined_change, undefined_change}
-use Rattle.ic_book.proofs.BookValid.{core_valid, defined_valid, notations, undefined_valid}
+use Rattle.ic_changes.specs.LookUps.{looks_up_in}
+use Rattle.ic_parts.proofs.BookLemmas.{core_of-changed, defined_change, undefined_change}
+use Rattle.ic_parts.proofs.BookValid.{core_valid, defined_valid, notations, undefined_valid}
 use Rattle.ic_book.proofs.HeldLemmas.{defined, held_after, undefined}
-use Rattle.ic_book.proofs.LookUpLemmas.{looks_up_is}
-use Rattle.ic_book.proofs.NameLemmas.{index_is, key_free, name_there, scope_is}
-use Rattle.ic_book.proofs.SparedBodies.{adding_bodies}
+use Rattle.ic_changes.proofs.LookUpLemmas.{looks_up_is}
+use Rattle.ic_parts.proofs.NameLemmas.{index_is, key_free, name_there, scope_is}
+use Rattle.ic_changes.proofs.SparedBodies.{adding_bodies}
 
 some_is : (a b : Body) → Some a ≡ Some b → a ≡ b
 some_is a b e = cc

@@ -22,20 +22,20 @@ use Rattle.ic_machine.specs.Refusal as refusals
 use Rattle.ic_sheets.specs.Sheet.{sheet_of}
 use Rattle.ic_sheets.specs.declared.sheet.Sheet.{Sheet as HeldSheet}
 use Rattle.ic_book.specs.declared.model.Model.TheInside.{Inside}
-use Rattle.ic_book.specs.Book.{IsValidBook, ModelState, core_of, whole_sheet}
-use Rattle.ic_book.specs.Change.{book_changed_by, with_added_sheet}
-use Rattle.ic_book.specs.Does.{Does, DoesStep, IsDone, Refused, Wanted}
-use Rattle.ic_book.specs.Fields.{named_sheet_fields}
+use Rattle.ic_parts.specs.Book.{IsValidBook, ModelState, core_of, whole_sheet}
+use Rattle.ic_parts.specs.Change.{book_changed_by, with_added_sheet}
+use Rattle.ic_parts.specs.Does.{Does, DoesStep, IsDone, Refused, Wanted}
+use Rattle.ic_parts.specs.Fields.{named_sheet_fields}
 use Rattle.ic_book.specs.Inside.{IsHeld, held}
-use Rattle.ic_book.specs.Refused.{TellsCore, refusal_of}
-use Rattle.ic_book.specs.SheetNames.{IsNumbered, free_among}
-use Rattle.ic_book.specs.Whole.{whole_of}
-use Rattle.ic_book.specs.declared.error.BookError.{BookError}
-use Rattle.ic_book.specs.declared.error.BookError.TheVariants as errors
-use Rattle.ic_book.proofs.BookValid.{added_valid}
-use Rattle.ic_book.proofs.DoesLemmas.{told_whole}
-use Rattle.ic_book.proofs.HeldLemmas.{add_accepts, seen_names}
-use Rattle.ic_book.proofs.WholeLemmas.{whole_added, whole_changed, whole_core}
+use Rattle.ic_parts.specs.Refused.{TellsCore, refusal_of}
+use Rattle.ic_parts.specs.SheetNames.{IsNumbered, free_among}
+use Rattle.ic_parts.specs.Whole.{whole_of}
+use Rattle.ic_parts.specs.declared.error.BookError.{BookError}
+use Rattle.ic_parts.specs.declared.error.BookError.TheVariants as errors
+use Rattle.ic_parts.proofs.BookValid.{added_valid}
+use Rattle.ic_parts.proofs.DoesLemmas.{told_whole}
+use Rattle.ic_parts.proofs.HeldLemmas.{add_accepts, seen_names}
+use Rattle.ic_parts.proofs.WholeLemmas.{whole_added, whole_changed, whole_core}
 
 -- the name of a new sheet in a valid book is one, and no sheet has it
 module _ (b : machine.Book) (valid : valid_machine.IsValidBook b) where

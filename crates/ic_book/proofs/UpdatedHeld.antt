@@ -40,18 +40,18 @@ use Rattle.ic_sheets.specs.Remade.{AreRemade, looks_up_remade, remade_pool}
 use Rattle.ic_sheets.specs.Rewriting.{FitSheets, look_ups, sheets_of, with_all_rewrites}
 use Rattle.ic_sheets.specs.Sheet.{Sheet, sheet_of}
 use Rattle.ic_sheets.specs.declared.sheet.Sheet.{Sheet as HeldSheet}
-use Rattle.ic_book.specs.Book.{Book, HasStrings, ModelState, notations_in, whole_of, whole_sheet}
-use Rattle.ic_book.specs.Definitions.{body_of_typed}
+use Rattle.ic_parts.specs.Book.{Book, HasStrings, ModelState, notations_in, whole_of, whole_sheet}
+use Rattle.ic_parts.specs.Definitions.{body_of_typed}
 use Rattle.ic_book.specs.Inside.{IsHeld, held, held_state, with_contents}
-use Rattle.ic_book.specs.LookUps.{LooksUpUpdated, looks_up_untouched}
-use Rattle.ic_book.specs.Scene.{scene_renamed}
-use Rattle.ic_book.specs.Sites.{IsUpdate, listed_sites, site_of}
-use Rattle.ic_book.specs.Updated.{IsChecked, IsPrepared, LeavesAll, keys_named, rule_of_update}
-use Rattle.ic_book.specs.declared.definitions.remaking.PreparedUpdate.{PreparedUpdate}
-use Rattle.ic_book.specs.declared.definitions.update.CheckedUpdate.{CheckedUpdate}
+use Rattle.ic_changes.specs.LookUps.{LooksUpUpdated, looks_up_untouched}
+use Rattle.ic_parts.specs.Scene.{scene_renamed}
+use Rattle.ic_parts.specs.Sites.{IsUpdate, listed_sites, site_of}
+use Rattle.ic_changes.specs.Updated.{IsChecked, IsPrepared, LeavesAll, keys_named, rule_of_update}
+use Rattle.ic_changes.specs.declared.definitions.remaking.PreparedUpdate.{PreparedUpdate}
+use Rattle.ic_changes.specs.declared.definitions.update.CheckedUpdate.{CheckedUpdate}
 use Rattle.ic_book.specs.declared.model.Model.TheInside.{Inside}
-use Rattle.ic_book.proofs.ExtendLemmas.{first_later}
-use Rattle.ic_book.proofs.SitesUpdate.{bound_body, kept_update, later, listed_is_captured, pools_kept, rule}
+use Rattle.ic_parts.proofs.ExtendLemmas.{first_later}
+use Rattle.ic_changes.proofs.SitesUpdate.{bound_body, kept_update, later, listed_is_captured, pools_kept, rule}
 use Rattle.ic_book.proofs.UpdatedRules.{after_is, rule_is, rule_leaves}
 
 -- lists ----

@@ -4,10 +4,10 @@ use Rattle.ic_laws.specs.CoreBook.{Definition}
 use Rattle.ic_cells.specs.declared.style.Style.{Style}
 use Rattle.ic_sheets.specs.Sheet.{sheet_of}
 use Rattle.ic_sheets.specs.declared.sheet.Sheet.{Sheet as HeldSheet}
-use Rattle.ic_book.specs.declared.lists.Lists.{Lists}
+use Rattle.ic_parts.specs.declared.lists.Lists.{Lists}
 use Rattle.ic_book.specs.declared.model.Model.TheInside.{Inside}
-use Rattle.ic_book.specs.Book.{Book, IsValidBook, ModelState}
-use Rattle.ic_book.specs.Names.{IsIndexed}
+use Rattle.ic_parts.specs.Book.{Book, IsValidBook, ModelState}
+use Rattle.ic_parts.specs.Names.{IsIndexed}
 
 -- the book that it holds
 abbrev pub held : Inside → Book

@@ -1,21 +1,21 @@
 //! Array formulas, the values of formulas, spills, and clearing.
-ghost use Rattle.std.specs.Prelude.{◌≡◌, ℕ, List, None, Some, true, chars, option_map, IfErr, IfSome, OnErr, OnOk};
+ghost use Rattle.std.specs.Prelude.{◌≡◌, ℕ, List, None, Some, true, chars, IfErr, IfSome, OnErr, OnOk};
 ghost use Rattle.std.specs.List.{slice_get};
 ghost use Rattle.ic_laws.specs.CoreStep.{updated_at};
 ghost use Rattle.ic_grid.specs.Block.{block_at};
 ghost use Rattle.ic_machine.specs.subjects.Arrays.{PutFormulaValue, PutSpill, RangeClearAll, RangeClearContents, SetUserArrayFormula, arrays_step};
-ghost use Rattle.ic_book.specs.Arrays.{WritesArray, after_equals, array_refusal, block_of};
-ghost use Rattle.ic_book.specs.Book.{IsValidBook};
-ghost use Rattle.ic_book.specs.Does.{Does, DoesIn, DoesOnly};
-ghost use Rattle.ic_book.specs.Fields.{no_fields};
-ghost use Rattle.ic_book.specs.LookUps.{LooksUpAsBefore};
-ghost use Rattle.ic_book.specs.Refused.{TellsOnly, refusal_of};
+ghost use Rattle.ic_parts.specs.Arrays.{WritesArray, after_equals, array_refusal, block_of};
+ghost use Rattle.ic_parts.specs.Book.{IsValidBook};
+ghost use Rattle.ic_parts.specs.Does.{Does, DoesIn, DoesOnly};
+ghost use Rattle.ic_parts.specs.Fields.{no_fields};
+ghost use Rattle.ic_changes.specs.LookUps.{LooksUpAsBefore};
+ghost use Rattle.ic_parts.specs.Refused.{TellsOnly, refusal_of};
 
-use crate::blocks::{array_fits, clear, put_value, put_values};
 use crate::{BookError, Model};
 use ic_cells::{FormulaValue, SpillValue};
 use ic_grid::Block;
-use ic_laws::scan::first_char;
+use ic_parts::arrays::{after_equals, block_of};
+use ic_parts::blocks::{array_fits, clear, put_value, put_values};
 use ic_refs::Area;
 
 impl<'a> Model<'a> {
@@ -180,28 +180,5 @@ impl<'a> Model<'a> {
             height,
         };
         self.on_cells(sheet, |grid| put_values(grid, block, values))
-    }
-}
-
-/// What stands after `=` at the front of a text. None exactly where it doesn't begin so, or nothing follows.
-pub(crate) fn after_equals(text: &str) -> Option<&str>
-    ensures { option_map (λ body. chars body.now) result ≡ after_equals (chars text.now) }
-{
-    let (c, body) = first_char(text)?;
-    if c != '=' || first_char(body).is_none() {
-        return None;
-    }
-    Some(body)
-}
-
-/// The block of an area.
-fn block_of(area: &Area) -> Block
-    ensures { result ≡ block_of area.now }
-{
-    Block {
-        row: area.row,
-        column: area.column,
-        width: area.width,
-        height: area.height,
     }
 }

@@ -1,25 +1,15 @@
 //! What cells hold: their values, their types, and which there are.
-ghost use Rattle.std.specs.Prelude.{◌≡◌, ◌≤◌, ◌++◌, IfOk, OnOk, length, map, option_copied, true};
-ghost use Rattle.std.specs.BTreeMap.{IsOrdered, keys};
-ghost use Rattle.std.specs.Option.{option_map_or};
-ghost use Rattle.ic_laws.specs.CoreBook.{last_id};
-ghost use Rattle.ic_cells.specs.Cell.{type_of, value_of};
-ghost use Rattle.ic_cells.specs.Maps.{place_cmp};
-ghost use Rattle.ic_grid.specs.Shape.{is_empty, shape_of};
+ghost use Rattle.ic_grid.specs.Shape.{is_empty};
 ghost use Rattle.ic_machine.specs.Fields.{places_fields, type_field};
 ghost use Rattle.ic_machine.specs.Reply.{bool_field};
 ghost use Rattle.ic_machine.specs.subjects.Reading.{GetAllCells, GetCellType, GetCellValueByIndex, IsEmptyCell, reading_step, value_fields};
-ghost use Rattle.ic_book.specs.Book.{IsValidBook};
-ghost use Rattle.ic_book.specs.Cells.{FindsCell, place_in, places_from};
-ghost use Rattle.ic_book.specs.Does.{Does, DoesOnly};
+ghost use Rattle.ic_parts.specs.Book.{IsValidBook};
+ghost use Rattle.ic_parts.specs.Cells.{FindsCell};
+ghost use Rattle.ic_parts.specs.Does.{Does, DoesOnly};
 
 use crate::{BookError, Model};
 use ic_cells::{Cell, CellIndex, CellType, CellValue};
-use ic_laws::{Items, OutOfMemory, Text};
-use ic_sheets::Sheet;
-use ic_tables::Language;
-use std::alloc::Global;
-use std::collections::BTreeMap;
+use ic_parts::cells::{all_places, is_empty, type_in, value_in};
 
 impl<'a> Model<'a> {
     /// The value of the cell at a row and a column, both from 1, of the sheet at an index, from 0: a number, a boolean or
@@ -81,73 +71,4 @@ impl<'a> Model<'a> {
             None => Err(BookError::InvalidSheet),
         }
     }
-}
-
-/// The value of a cell, if there is one.
-fn value_in(
-    alloc: Global,
-    cell: Option<&Cell>,
-    strings: &Items<Text>,
-    language: &Language,
-) -> Result<CellValue, OutOfMemory>
-    ensures { IfOk result (λ v. v ≡ option_map_or (value_of strings.now language.now)
-        (option_copied cell.entry) CellValue.None) }
-{
-    match cell {
-        Some(cell) => cell.value(alloc, strings, language),
-        None => Ok(CellValue::None),
-    }
-}
-
-/// The type of its value.
-fn type_in(cell: Option<&Cell>) -> CellType
-    ensures { result ≡ option_map_or type_of (option_copied cell.entry) CellType.Number }
-{
-    match cell {
-        Some(cell) => cell.get_type(),
-        None => CellType::Number,
-    }
-}
-
-/// Whether it holds nothing but a style.
-fn is_empty(cell: Option<&Cell>) -> bool
-    ensures { result ≡ option_map_or (λ x. is_empty (shape_of x)) (option_copied cell.entry) true }
-{
-    match cell {
-        Some(Cell::EmptyCell { .. }) => true,
-        Some(_) => false,
-        None => true,
-    }
-}
-
-/// The places of all cells of these sheets.
-fn all_places(alloc: Global, sheets: &[Sheet]) -> Result<Vec<CellIndex>, OutOfMemory>
-    requires { length sheets.now ≤ last_id }
-    ensures { IfOk result (λ all. all.items ≡ places_from 0 sheets.now) }
-{
-    let mut all = Vec::new(alloc);
-    for (index, sheet) in sheets.iter().enumerate() {
-        push_places(&mut all, index as u32, sheet.grid.cells.as_map())?;
-    }
-    Ok(all)
-}
-
-/// Puts the places of the cells of a sheet at the end.
-fn push_places(
-    all: &mut Vec<CellIndex>,
-    index: u32,
-    cells: &BTreeMap<(i32, i32), Cell>,
-) -> Result<(), OutOfMemory>
-    ensures pushed { OnOk result (all.new.items
-        ≡ all.old.items ++ map (place_in index) (keys cells.now)) }
-    ensures ordered { IsOrdered place_cmp cells.now }
-{
-    for place in cells.keys() {
-        all.push(CellIndex {
-            index,
-            row: place.0,
-            column: place.1,
-        })?;
-    }
-    Ok(())
 }

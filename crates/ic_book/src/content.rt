@@ -1,23 +1,23 @@
 //! What cells show: so that it can be typed again, and by their formats.
-ghost use Rattle.std.specs.Prelude.{◌≡◌, ◌<◌, IfOk, Some, chars, length, option_and_then, option_map, string_bytes};
+ghost use Rattle.std.specs.Prelude.{◌≡◌, ◌<◌, IfOk, Some, chars, length, option_map, string_bytes};
 ghost use Rattle.std.specs.FinMap as finite;
-ghost use Rattle.std.specs.List.{slice_get};
-ghost use Rattle.ic_cells.specs.Cell.{cell_formula_index, string_at, style_of};
+ghost use Rattle.ic_cells.specs.Cell.{style_of};
 ghost use Rattle.ic_input.specs.Typed.{needs_quoting};
 ghost use Rattle.ic_machine.specs.InForce.{formatted_in, is_number, is_text, shown_number, shown_words, typed_in};
 ghost use Rattle.ic_machine.specs.subjects.Reading.{GetFormattedCellValue, GetLocalizedCellContent, reading_step};
 ghost use Rattle.ic_sheets.specs.Sheet.{sheet_of};
-ghost use Rattle.ic_book.specs.Does.{Does};
-ghost use Rattle.ic_book.specs.Fields.{string_only};
-ghost use Rattle.ic_book.specs.Shown.{StandsIn, cell_formatted, code_at, content_formatted, content_shown, date_shown, formula_number, localized, number_kept, spill_number, spill_text, text_kept, value_shown};
-ghost use Rattle.ic_book.specs.Whole.{whole_of};
+ghost use Rattle.ic_parts.specs.Does.{Does};
+ghost use Rattle.ic_parts.specs.Fields.{string_only};
+ghost use Rattle.ic_parts.specs.Shown.{StandsIn, cell_formatted, code_at, content_formatted, content_shown, date_shown, localized, number_kept, text_kept, value_shown};
+ghost use Rattle.ic_parts.specs.Whole.{whole_of};
 
-use crate::formulas::after_sign;
 use crate::{BookError, Model};
-use ic_cells::{Cell, FormulaValue, SpillValue};
-use ic_input::{Typed, amount_text, classify, format_amount, is_date_code, value_needs_quoting};
+use ic_cells::Cell;
+use ic_input::{amount_text, format_amount, is_date_code, value_needs_quoting};
 use ic_laws::scan::is_nothing;
-use ic_laws::{Amount, Formula, OutOfMemory, Text};
+use ic_laws::{Amount, OutOfMemory};
+use ic_parts::content::{formula_in, is_number, is_text, number_kept, text_kept};
+use ic_parts::formulas::after_sign;
 use ic_sheets::Sheet;
 
 impl<'a> Model<'a> {
@@ -247,94 +247,5 @@ impl<'a> Model<'a> {
             self.notation.language(),
             english,
         )
-    }
-}
-
-/// Whether it is this number.
-fn is_number(typed: &Typed, amount: Amount) -> bool
-    ensures { result ≡ is_number amount typed.now }
-{
-    match typed {
-        Typed::Number(typed, _) => typed.units() == amount.units(),
-        _ => false,
-    }
-}
-
-/// Whether it is a text.
-pub(crate) fn is_text(typed: &Typed) -> bool
-    ensures { result ≡ is_text typed.now }
-{
-    matches!(typed, Typed::Text(_))
-}
-
-/// The formula of a cell of a sheet.
-pub(crate) fn formula_in<'s>(worksheet: &'s Sheet, cell: &Cell) -> Option<&'s Formula>
-    ensures { option_map (λ f. f.now) result ≡ option_and_then
-        (slice_get worksheet.entry.now.pool.formulas) (cell_formula_index cell.now) }
-{
-    worksheet.pool.get(cell.get_formula()?)
-}
-
-/// The text that a cell without a formula keeps.
-fn text_kept<'c>(cell: &'c Cell, strings: &'c [Text]) -> Option<&'c str>
-    ensures { option_map (λ t. chars t.now) result ≡ text_kept strings.entry.now cell.entry.now }
-{
-    match cell {
-        Cell::SharedString { si, .. } => Some(string_at(strings, *si)),
-        Cell::SpillCell { v, .. } => spill_text(v),
-        _ => None,
-    }
-}
-
-/// The number that a cell's value is.
-fn number_kept(cell: &Cell) -> Option<Amount>
-    ensures { result ≡ number_kept cell.now }
-{
-    match cell {
-        Cell::NumberCell { v, .. } => Some(*v),
-        Cell::CellFormula { v, .. } => formula_number(v),
-        Cell::ArrayFormula { v, .. } => formula_number(v.kept()?),
-        Cell::SpillCell { v, .. } => spill_number(v),
-        _ => None,
-    }
-}
-
-/// The text of a cell of a spill.
-fn spill_text(value: &SpillValue) -> Option<&str>
-    ensures { option_map (λ t. chars t.now) result ≡ spill_text value.entry.now }
-{
-    match value {
-        SpillValue::Text(text) => Some(text.as_ref().as_str()),
-        _ => None,
-    }
-}
-
-/// The number that the value of a cell of a spill is.
-fn spill_number(value: &SpillValue) -> Option<Amount>
-    ensures { result ≡ spill_number value.now }
-{
-    match value {
-        SpillValue::Number(amount) => Some(*amount),
-        _ => None,
-    }
-}
-
-/// The number that the value of a formula is.
-fn formula_number(value: &FormulaValue) -> Option<Amount>
-    ensures { result ≡ formula_number value.now }
-{
-    match value {
-        FormulaValue::Number(amount) => Some(*amount),
-        _ => None,
-    }
-}
-
-/// The shared string at an index. There is none past the last, and then it is the empty text.
-fn string_at(strings: &[Text], index: usize) -> &str
-    ensures { chars result.now ≡ string_at strings.entry.now index }
-{
-    match strings.get(index) {
-        Some(text) => text.as_str(),
-        None => "",
     }
 }

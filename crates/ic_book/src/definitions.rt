@@ -4,30 +4,25 @@ ghost use Rattle.ic_laws.specs.CoreStep.{changed_by, delete_definition_refusal, 
 ghost use Rattle.ic_laws.specs.FormulaReading.{Body, body_of, shown_body};
 ghost use Rattle.ic_laws.specs.Refusal.{InvalidNameFormula};
 ghost use Rattle.ic_machine.specs.subjects.Definitions.{DeleteDefinedName, GetDefinedNameList, IsValidDefinedName, NewDefinedName, definition_step};
-ghost use Rattle.ic_book.specs.Book.{IsValidBook, core_of, notations_in};
-ghost use Rattle.ic_book.specs.Change.{book_changed_by, with_added_definition, with_removed_definition};
-ghost use Rattle.ic_book.specs.Does.{Does, DoesOr};
-ghost use Rattle.ic_book.specs.Fields.{listed_fields, no_fields, scope_field};
-ghost use Rattle.ic_book.specs.LookUps.{LooksUpDefined, LooksUpUndefined};
-ghost use Rattle.ic_book.specs.Mentioned.{BindsDefined, DanglesUndefined};
-ghost use Rattle.ic_book.specs.Definitions.{body_of_typed, listed, listed_definitions};
-ghost use Rattle.ic_book.specs.Refused.{Refuses, RefusesOr};
+ghost use Rattle.ic_parts.specs.Book.{IsValidBook, core_of, notations_in};
+ghost use Rattle.ic_parts.specs.Change.{book_changed_by, with_added_definition, with_removed_definition};
+ghost use Rattle.ic_parts.specs.Does.{Does, DoesOr};
+ghost use Rattle.ic_parts.specs.Fields.{listed_fields, no_fields, scope_field};
+ghost use Rattle.ic_changes.specs.LookUps.{LooksUpDefined, LooksUpUndefined};
+ghost use Rattle.ic_parts.specs.Mentioned.{BindsDefined, DanglesUndefined};
+ghost use Rattle.ic_parts.specs.Definitions.{body_of_typed, listed, listed_definitions};
+ghost use Rattle.ic_parts.specs.Refused.{Refuses, RefusesOr};
 
 mod body;
-mod parts;
-mod remaking;
 mod update;
 
 use crate::{BookError, Model};
-use body::TypedBody;
-pub(crate) use body::past_equals;
+use ic_changes::definitions::parts::{add_definition, delete_at};
 use ic_definitions::{Definition, NamedDefinitions};
 use ic_laws::OutOfMemory;
 use ic_laws::scan::push_text;
+use ic_parts::definitions::body::TypedBody;
 use ic_refs::is_valid_identifier;
-pub(crate) use parts::bodies_without;
-use parts::{add_definition, delete_at};
-pub(crate) use remaking::{keys_of_update, updated_definition};
 
 impl<'a> Model<'a> {
     /// Adds a definition of this name at the end, local to the sheet at an index, from 0, or to none. Its body is a

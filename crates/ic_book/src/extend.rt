@@ -1,25 +1,22 @@
 //! Formulas and values of one cell, written out for another.
 ghost use Rattle.std.specs.Prelude.{◌≡◌, IfOk, Some, chars, option_map, string_bytes};
 ghost use Rattle.std.specs.List.{slice_get};
-ghost use Rattle.std.specs.Option.{option_copied};
 ghost use Rattle.ic_laws.specs.Notations.{english};
 ghost use Rattle.ic_machine.specs.Refusal.{InvalidFormula, first_refusal};
 ghost use Rattle.ic_machine.specs.subjects.Extending.{ExtendCopiedValue, ExtendTo, cell_of, extending_step};
-ghost use Rattle.ic_book.specs.Book.{notations_in};
-ghost use Rattle.ic_book.specs.Does.{Does, DoesOrWhole};
-ghost use Rattle.ic_book.specs.Extended.{CopiesFormula, bound_formula, cell_at, cells_causes, inside_causes, tree_at, tree_shown, value_text};
-ghost use Rattle.ic_book.specs.Fields.{string_only};
-ghost use Rattle.ic_book.specs.Refused.{TellsOnly};
+ghost use Rattle.ic_parts.specs.Book.{notations_in};
+ghost use Rattle.ic_parts.specs.Does.{Does, DoesOrWhole};
+ghost use Rattle.ic_parts.specs.Extended.{CopiesFormula, bound_formula, cell_at, cells_causes, tree_at, tree_shown};
+ghost use Rattle.ic_parts.specs.Fields.{string_only};
+ghost use Rattle.ic_parts.specs.Refused.{TellsOnly};
 
-use crate::formulas::formula_at;
 use crate::{BookError, Model};
-use ic_cells::Cell;
 use ic_input::formula_without_prefix;
-use ic_laws::{Dialect, Formula, Items, OutOfMemory, Spelled, Text};
-use ic_refs::{CellReferenceIndex, is_valid_column_number, is_valid_row};
-use ic_tables::{Language, Locale};
+use ic_laws::{Dialect, Formula, OutOfMemory, Spelled};
+use ic_parts::extend::{check_cells, same_text, text_in};
+use ic_parts::formulas::formula_at;
+use ic_refs::CellReferenceIndex;
 use ic_tree::{Shown, read};
-use std::alloc::Global;
 
 impl<'a> Model<'a> {
     /// What is shown in another cell of the formula in the cell at a row and a column, all from 1, of the sheet at an
@@ -158,41 +155,4 @@ impl<'a> Model<'a> {
         let language = self.notation.get_default_language();
         Shown::new(self.notation.tables(), locale, language, row, column)
     }
-}
-
-/// Whether both cells lie in a sheet: Ok, or why not.
-fn check_cells(source: &CellReferenceIndex, target: &CellReferenceIndex) -> Result<(), BookError>
-    ensures { TellsOnly result (first_refusal (inside_causes source.now target.now)) }
-{
-    if !is_valid_row(source.row) || !is_valid_row(target.row) {
-        return Err(BookError::InvalidRow);
-    }
-    if !is_valid_column_number(source.column) || !is_valid_column_number(target.column) {
-        return Err(BookError::InvalidColumn);
-    }
-    Ok(())
-}
-
-/// The text of the value of a cell, if there is one.
-fn text_in(
-    alloc: Global,
-    cell: Option<&Cell>,
-    strings: &Items<Text>,
-    locale: &Locale,
-    language: &Language,
-) -> Result<String, OutOfMemory>
-    ensures { IfOk result (λ s. chars (string_bytes s)
-        ≡ value_text strings.now locale.now language.now (option_copied cell.entry)) }
-{
-    match cell {
-        Some(cell) => cell.get_localized_text(alloc, strings, locale, language),
-        None => Ok(String::new(alloc)),
-    }
-}
-
-/// A text as callers take it.
-fn same_text(alloc: Global, text: &str) -> Result<String, OutOfMemory>
-    ensures { IfOk result (λ s. chars (string_bytes s) ≡ chars text.now) }
-{
-    Ok(String::from_str(alloc, text)?)
 }

@@ -1,26 +1,19 @@
 //! A book that is made of a workbook which is handed in as plain records.
-ghost use Rattle.std.specs.Prelude.{◌≡◌, ℕ, List, None, Some, IfErr, IfOk, OnOk, chars, false, map};
+ghost use Rattle.std.specs.Prelude.{◌≡◌, None, Some, IfErr, IfOk, OnOk, chars, false, map};
 ghost use Rattle.ic_tables.specs.Tables.{IsWellFormed, language_of, locale_of};
-ghost use Rattle.ic_book.specs.Asked.{Breaks, HasCount, IsTakenIn, MeetsTo, TellsFirst, TellsHandedIn};
-ghost use Rattle.ic_book.specs.Book.{whole_of};
-ghost use Rattle.ic_book.specs.Filled.{AreFilled};
-ghost use Rattle.ic_book.specs.HandedIn.{MeetsAll, book_of, definition_of, notation_refusal};
-ghost use Rattle.ic_book.specs.Names.{IsIndexed};
+ghost use Rattle.ic_workbooks.specs.Asked.{IsTakenIn, TellsFirst, TellsHandedIn};
+ghost use Rattle.ic_parts.specs.Book.{whole_of};
+ghost use Rattle.ic_workbooks.specs.HandedIn.{MeetsAll, book_of, notation_refusal};
 
-use crate::about::About;
-use crate::asked::{ask_contents, ask_sheets};
-use crate::contents::Contents;
-use crate::copies::{copy_metadata, copy_styles, copy_text};
-use crate::filled::{fill_definitions, fill_sheets};
-use crate::in_force::Notation;
-use crate::lists::Lists;
-use crate::names::NameIndex;
-use crate::numbered::number_texts;
-use crate::{BookError, Model};
-use ic_cells::{Workbook, Worksheet};
-use ic_laws::{OutOfMemory, Text};
+use crate::{BookError, Model, Notation};
+use ic_cells::Workbook;
+use ic_laws::Text;
+use ic_parts::copies::copy_styles;
+use ic_parts::lists::Lists;
 use ic_tables::{Language, NamedLocale, Tables};
-use std::alloc::Global;
+use ic_workbooks::asked::sheets::ask_sheets;
+use ic_workbooks::handed_in::{about_of, contents_of, memory_of};
+use ic_workbooks::numbered::number_texts;
 
 impl<'a> Model<'a> {
     /// A book of what plain records hold, as `workbook` gives them, in a language. Nothing of the records stays in it: they
@@ -95,64 +88,5 @@ fn from_records<'a>(
         names,
         lists: Lists { styles, strings },
         about,
-    })
-}
-
-/// Where the memory of the first sheet comes from; asks whether there is one.
-fn memory_of(worksheets: &[Worksheet]) -> Result<Global, BookError>
-    ensures { IfErr result (Breaks 1 (HasCount worksheets.now)) }
-{
-    if worksheets.is_empty() {
-        return Err(BookError::BadWorkbook(1));
-    }
-    Ok(worksheets[0].cells.alloc())
-}
-
-/// The sheets and the definitions that records make, with the numbers of shared strings by their indexes, and what finds
-/// them by their names. Asks for the first five conditions, one after another.
-fn contents_of(
-    alloc: Global,
-    tables: &Tables,
-    workbook: &Workbook,
-    numbers: &[usize],
-) -> Result<(Contents, NameIndex), BookError>
-    ensures sheets { IfOk result
-        (λ c. AreFilled workbook.now tables.now numbers.now c.0.sheets) }
-    ensures definitions { IfOk result (λ c. c.0.definitions
-        ≡ map (definition_of workbook.now tables.now) workbook.now.defined_names) }
-    ensures indexed { IfOk result (λ c. IsIndexed c.1 c.0.sheets c.0.definitions) }
-    ensures met { OnOk result ((language : List ℕ)
-        → MeetsTo 5 workbook.now language tables.now) }
-    ensures err { IfErr result (TellsFirst workbook.now tables.now) }
-{
-    let (mut contents, names) = ask_contents(alloc, workbook)?;
-    let worksheets = workbook.worksheets.as_slice();
-    fill_sheets(alloc, tables, &mut contents, &names, numbers, worksheets)?;
-    let records = workbook.defined_names.as_slice();
-    fill_definitions(alloc, tables, &mut contents, &names, records)?;
-    Ok((contents, names))
-}
-
-/// What records have beside their contents, their lists and their notation.
-fn about_of<'a>(
-    alloc: Global,
-    workbook: &Workbook,
-    zone: &'a Text,
-) -> Result<About<'a>, OutOfMemory>
-    ensures { IfOk result (λ about. about ≡ record {
-      name = workbook.now.name;
-      zone = zone.entry;
-      theme = workbook.now.theme.name;
-      metadata = workbook.now.metadata;
-    }) }
-{
-    let name = copy_text(alloc, &workbook.name)?;
-    let theme = copy_text(alloc, &workbook.theme.name)?;
-    let metadata = copy_metadata(alloc, &workbook.metadata)?;
-    Ok(About {
-        name,
-        zone,
-        theme,
-        metadata,
     })
 }

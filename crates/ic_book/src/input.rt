@@ -1,20 +1,21 @@
 //! Texts that are typed into cells, or given to them.
-ghost use Rattle.std.specs.Prelude.{◌≡◌, None, IfOk, OnOk, chars, option_map, string_bytes};
+ghost use Rattle.std.specs.Prelude.{◌≡◌, None, IfOk, OnOk, chars, string_bytes};
 ghost use Rattle.ic_input.specs.Typed.{needs_quoting};
 ghost use Rattle.ic_machine.specs.InForce.{typed_in};
 ghost use Rattle.ic_machine.specs.subjects.Writing.{SetUserInput, UpdateCellWithText, writing_step};
-ghost use Rattle.ic_book.specs.Does.{Does, DoesIn, DoesStep, WantedIn};
-ghost use Rattle.ic_book.specs.Fields.{no_fields};
-ghost use Rattle.ic_book.specs.LookUps.{LooksUpAsBefore};
-ghost use Rattle.ic_book.specs.Retyped.{Retypes};
-ghost use Rattle.ic_book.specs.Values.{Shows, style_change, typed_change, typed_content, typed_formula, typed_step, value_content};
-ghost use Rattle.ic_book.specs.Whole.{whole_of};
-ghost use Rattle.ic_book.specs.Written.{value_refusal};
+ghost use Rattle.ic_parts.specs.Does.{Does, DoesIn, DoesStep, WantedIn};
+ghost use Rattle.ic_parts.specs.Fields.{no_fields};
+ghost use Rattle.ic_changes.specs.LookUps.{LooksUpAsBefore};
+ghost use Rattle.ic_parts.specs.Retyped.{Retypes};
+ghost use Rattle.ic_parts.specs.Values.{Shows, typed_change, typed_formula, typed_step};
+ghost use Rattle.ic_parts.specs.Whole.{whole_of};
+ghost use Rattle.ic_parts.specs.Written.{value_refusal};
 
-use crate::values::{Restyle, Value};
 use crate::{BookError, Model};
 use ic_input::{Typed, classify, value_needs_quoting};
 use ic_laws::OutOfMemory;
+use ic_parts::input::{typed_change, typed_formula, typed_value};
+use ic_parts::values::{Restyle, Value};
 
 impl<'a> Model<'a> {
     /// Writes a text into the cell at a row and a column, both from 1, of the sheet at an index, from 0, as it stands,
@@ -121,40 +122,5 @@ impl<'a> Model<'a> {
             Ok(needs) => needs,
             Err(_) => unreachable!(),
         }
-    }
-}
-
-/// The formula that a typed text is, as it stands after `=`.
-pub(crate) fn typed_formula(typed: &Typed) -> Option<&str>
-    ensures { option_map (λ f. chars f.now) result ≡ typed_formula typed.now }
-{
-    match typed {
-        Typed::Formula(body) => Some(body.as_str()),
-        _ => None,
-    }
-}
-
-/// What a typed text that is no formula writes.
-fn typed_value(typed: &Typed) -> Value<'_>
-    ensures { value_content result ≡ typed_content typed.now }
-{
-    match typed {
-        Typed::Empty | Typed::Formula(_) => Value::Empty,
-        Typed::Number(amount, _) => Value::Number(*amount),
-        Typed::Boolean(truth) => Value::Boolean(*truth),
-        Typed::Error(error) => Value::Error(*error),
-        Typed::Quoted(text) | Typed::Text(text) => Value::Text(text.as_str()),
-    }
-}
-
-/// What becomes of the style where a typed text that is no formula is written.
-fn typed_change(typed: &Typed) -> Restyle<'_>
-    ensures { style_change result ≡ typed_change typed.now }
-{
-    match typed {
-        Typed::Empty => Restyle::Nothing,
-        Typed::Quoted(_) => Restyle::Quote(true),
-        Typed::Number(_, Some(code)) => Restyle::Code(code.as_str()),
-        _ => Restyle::Quote(false),
     }
 }

@@ -3,14 +3,14 @@ ghost use Rattle.std.specs.Prelude.{◌≡◌, [], ◌∷◌, IfOk, None, OnErr,
 ghost use Rattle.ic_machine.specs.Refusal.{IdLive, IdsUsedUp, first_refusal};
 ghost use Rattle.ic_machine.specs.subjects.Sheets as sheets;
 ghost use Rattle.ic_machine.specs.subjects.Sheets.{chosen_id, insert_causes, is_live, sheet_step};
-ghost use Rattle.ic_book.specs.Book.{IsValidBook, core_of};
-ghost use Rattle.ic_book.specs.Change.{book_changed_by, with_inserted_sheet};
-ghost use Rattle.ic_book.specs.Does.{Does};
-ghost use Rattle.ic_book.specs.Fields.{no_fields};
-ghost use Rattle.ic_book.specs.LookUps.{LooksUpInserted};
-ghost use Rattle.ic_book.specs.Mentioned.{AtChosen, BindsInserted};
-ghost use Rattle.ic_book.specs.Refused.{TellsOnly};
-ghost use Rattle.ic_book.specs.Whole.{whole_of};
+ghost use Rattle.ic_parts.specs.Book.{IsValidBook, core_of};
+ghost use Rattle.ic_parts.specs.Change.{book_changed_by, with_inserted_sheet};
+ghost use Rattle.ic_parts.specs.Does.{Does};
+ghost use Rattle.ic_parts.specs.Fields.{no_fields};
+ghost use Rattle.ic_changes.specs.LookUps.{LooksUpInserted};
+ghost use Rattle.ic_parts.specs.Mentioned.{AtChosen, BindsInserted};
+ghost use Rattle.ic_parts.specs.Refused.{TellsOnly};
+ghost use Rattle.ic_parts.specs.Whole.{whole_of};
 
 use crate::{BookError, Model};
 use ic_definitions::NamedDefinitions;

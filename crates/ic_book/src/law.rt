@@ -2,13 +2,13 @@ ghost use Rattle.std.specs.Prelude.{◌≡◌, List, None, ℕ};
 ghost use Rattle.ic_tables.specs.Tables.{IsWellFormed, TableSet};
 ghost use Rattle.ic_cells.specs.declared.workbook.Workbook.{Workbook};
 ghost use Rattle.ic_machine.specs.Valid as valid;
-ghost use Rattle.ic_book.specs.Asked.{TellsHandedIn};
-ghost use Rattle.ic_book.specs.Book.{Book, IsValidBook, whole_of};
-ghost use Rattle.ic_book.specs.HandedIn.{HaveSameTexts, MeetsAll, book_of, notation_refusal};
-ghost use Rattle.ic_book.specs.Whole.{HasCore};
-ghost use Rattle.ic_book.specs.Workbook.{workbook_of};
-ghost use Rattle.ic_book.specs.declared.error.BookError.TheVariants as errors;
-ghost use Rattle.ic_book.specs.declared.error.BookError.{BookError};
+ghost use Rattle.ic_workbooks.specs.Asked.{TellsHandedIn};
+ghost use Rattle.ic_parts.specs.Book.{Book, IsValidBook, whole_of};
+ghost use Rattle.ic_workbooks.specs.HandedIn.{HaveSameTexts, MeetsAll, book_of, notation_refusal};
+ghost use Rattle.ic_parts.specs.Whole.{HasCore};
+ghost use Rattle.ic_workbooks.specs.Workbook.{workbook_of};
+ghost use Rattle.ic_parts.specs.declared.error.BookError.TheVariants as errors;
+ghost use Rattle.ic_parts.specs.declared.error.BookError.{BookError};
 
 /// The whole book of a valid book has its core: so what a call does to the whole book says what becomes of the core.
 pub fn law_whole_book()

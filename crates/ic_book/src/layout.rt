@@ -2,13 +2,13 @@
 ghost use Rattle.std.specs.Prelude.{◌≡◌};
 ghost use Rattle.ic_machine.specs.Reply.{bool_field, number_field};
 ghost use Rattle.ic_machine.specs.subjects.Layout.{GetColumnWidth, GetRowHeight, IsColumnHidden, IsRowHidden, SetColumnHidden, SetColumnWidth, SetRowHeight, SetRowHidden, layout_step};
-ghost use Rattle.ic_book.specs.Does.{Does, DoesOnly};
-ghost use Rattle.ic_book.specs.Fields.{no_fields};
+ghost use Rattle.ic_parts.specs.Does.{Does, DoesOnly};
+ghost use Rattle.ic_parts.specs.Fields.{no_fields};
 
-use crate::lines::{
+use crate::{BookError, Model};
+use ic_parts::lines::{
     height_of, hide_column, hide_row, hides_column, hides_row, set_height, set_width, width_of,
 };
-use crate::{BookError, Model};
 
 impl<'a> Model<'a> {
     /// Gives a column, by its number from 1, of the sheet at an index, from 0, a width, in hundredths. What else is set

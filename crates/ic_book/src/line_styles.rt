@@ -1,11 +1,11 @@
 //! The styles of rows and columns, taken away.
 ghost use Rattle.std.specs.Prelude.{◌≡◌};
 ghost use Rattle.ic_machine.specs.subjects.Styles.{DeleteColumnStyle, DeleteRowStyle, style_step};
-ghost use Rattle.ic_book.specs.Does.{DoesOnly};
-ghost use Rattle.ic_book.specs.Fields.{no_fields};
+ghost use Rattle.ic_parts.specs.Does.{DoesOnly};
+ghost use Rattle.ic_parts.specs.Fields.{no_fields};
 
-use crate::lines::{free_column, free_row};
 use crate::{BookError, Model};
+use ic_parts::lines::{free_column, free_row};
 
 impl<'a> Model<'a> {
     /// Takes the style of a column, by its number from 1, of the sheet at an index, from 0, away, if one was set. Its width

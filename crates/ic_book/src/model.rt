@@ -3,26 +3,24 @@ ghost use Rattle.std.specs.List.{slice_get};
 ghost use Rattle.ic_laws.specs.CoreBook.{fresh_id, used_ids};
 ghost use Rattle.ic_laws.specs.Notations.{AreNotations};
 ghost use Rattle.ic_laws.specs.ValidCore.{IsPooled};
-ghost use Rattle.ic_book.specs.Book.{IsValidBook, core_of, first_sheet_name_in, metadata_made, new_book, new_book_refusal, notations_in, scene_in};
-ghost use Rattle.ic_book.specs.Does.{DoesOnly};
-ghost use Rattle.ic_book.specs.Fields.{scope_field};
-ghost use Rattle.ic_book.specs.Refused.{Refuses};
+ghost use Rattle.ic_parts.specs.Book.{IsValidBook, core_of, first_sheet_name_in, metadata_made, new_book, new_book_refusal, notations_in, scene_in};
+ghost use Rattle.ic_parts.specs.Does.{DoesOnly};
+ghost use Rattle.ic_parts.specs.Fields.{scope_field};
+ghost use Rattle.ic_parts.specs.Refused.{Refuses};
 ghost use Rattle.ic_machine.specs.subjects.Sheets.{GetNewSheetId, sheet_step};
 ghost use Rattle.ic_cells.specs.Style.{default_style};
 ghost use Rattle.ic_sheets.specs.Index.{FindsSheets};
 ghost use Rattle.ic_sheets.specs.Sheet.{empty_grid, plain_tab};
 
-use crate::BookError;
-use crate::about::{About, metadata_made};
-use crate::contents::Contents;
-use crate::in_force::Notation;
-use crate::lists::Lists;
-use crate::names::NameIndex;
-use crate::scene::BookScene;
-use crate::sheet_names::{NumberedName, base_name, put_name};
+use crate::{BookError, NameIndex, Notation};
 use ic_cells::{SharedStrings, Styles};
 use ic_definitions::Definitions;
 use ic_laws::{Finder, Formula, OutOfMemory, Text};
+use ic_parts::about::{About, metadata_made};
+use ic_parts::contents::Contents;
+use ic_parts::lists::Lists;
+use ic_parts::scene::BookScene;
+use ic_parts::sheet_names::{NumberedName, base_name, put_name};
 use ic_sheets::Sheets;
 use ic_tables::{Language, Tables};
 use jiff::Timestamp;
@@ -60,7 +58,7 @@ impl Drop for Model<'_> {
 }
 
 impl<'a> marker::Model for Model<'a> {
-    ghost use Rattle.ic_book.specs.Book.{ModelState};
+    ghost use Rattle.ic_parts.specs.Book.{ModelState};
     ghost use Rattle.ic_book.specs.Inside.{IsKept, held_state};
 
     ghost Value = { ModelState };

@@ -3,16 +3,16 @@ ghost use Rattle.std.specs.Prelude.{◌≡◌, IfOk, chars, length, string_bytes
 ghost use Rattle.ic_laws.specs.Name.{is_sheet_name};
 ghost use Rattle.ic_machine.specs.subjects.Sheets as sheets;
 ghost use Rattle.ic_machine.specs.subjects.Sheets.{new_sheet_name, numbered_name, sheet_step};
-ghost use Rattle.ic_book.specs.Does.{Does};
-ghost use Rattle.ic_book.specs.Fields.{named_sheet_fields};
-ghost use Rattle.ic_book.specs.LookUps.{LooksUpAdded};
-ghost use Rattle.ic_book.specs.Mentioned.{BindsAdded};
-ghost use Rattle.ic_book.specs.SheetNames.{IsNumbered};
-ghost use Rattle.ic_book.specs.Whole.{whole_of};
+ghost use Rattle.ic_parts.specs.Does.{Does};
+ghost use Rattle.ic_parts.specs.Fields.{named_sheet_fields};
+ghost use Rattle.ic_changes.specs.LookUps.{LooksUpAdded};
+ghost use Rattle.ic_parts.specs.Mentioned.{BindsAdded};
+ghost use Rattle.ic_parts.specs.SheetNames.{IsNumbered};
+ghost use Rattle.ic_parts.specs.Whole.{whole_of};
 
-use crate::sheet_names::{NumberedName, base_name, free_name};
 use crate::{BookError, Model};
 use ic_laws::OutOfMemory;
+use ic_parts::sheet_names::{NumberedName, base_name, free_name};
 
 impl<'a> Model<'a> {
     /// Adds a sheet at the end, as `add_sheet` does, and answers its name and its index, from 0. The name is the word for a

@@ -1,13 +1,12 @@
-ghost use Rattle.std.specs.Prelude.{◌≡◌, IfOk, chars, string_bytes};
+ghost use Rattle.std.specs.Prelude.{◌≡◌, chars};
 ghost use Rattle.ic_machine.specs.subjects.Notation.{GetLanguage, GetLocale, GetTimezone, SetLanguage, SetLocale, SetTimezone, notation_step};
-ghost use Rattle.ic_book.specs.Book.{core_of};
-ghost use Rattle.ic_book.specs.Does.{Does, DoesOnly};
-ghost use Rattle.ic_book.specs.Fields.{no_fields, string_only};
+ghost use Rattle.ic_parts.specs.Book.{core_of};
+ghost use Rattle.ic_parts.specs.Does.{Does, DoesOnly};
+ghost use Rattle.ic_parts.specs.Fields.{no_fields, string_only};
 
 use crate::{BookError, Model};
-use ic_laws::{OutOfMemory, Text};
+use ic_parts::notation::string_of;
 use ic_tables::Tables;
-use std::alloc::Global;
 
 impl<'a> Model<'a> {
     /// The tables that the book borrows. It takes no memory.
@@ -98,11 +97,4 @@ impl<'a> Model<'a> {
     {
         Ok(string_of(self.alloc, self.about.zone)?)
     }
-}
-
-/// A text as callers take it.
-fn string_of(alloc: Global, text: &Text) -> Result<String, OutOfMemory>
-    ensures { IfOk result (λ s. chars (string_bytes s) ≡ text.now) }
-{
-    Ok(String::from_str(alloc, text.as_str())?)
 }

@@ -1,8 +1,8 @@
 //! A step on a part of a sheet, as a step of the book.
 ghost use Rattle.std.specs.Prelude.{◌≡◌, Result};
 ghost use Rattle.std.specs.Fn.{FnOnceReturnsAtMut, FnOnceTakesAt, FnOnceTakesAtMut};
-ghost use Rattle.ic_book.specs.Parts.{ChangesGrid, ChangesTab, FindsSheet, ReadsGrid, ReadsTab, StaysFrozen, StaysHeld, StaysLaidOut};
-ghost use Rattle.ic_book.specs.declared.error.BookError.{BookError};
+ghost use Rattle.ic_parts.specs.Parts.{ChangesGrid, ChangesTab, FindsSheet, ReadsGrid, ReadsTab, StaysFrozen, StaysHeld, StaysLaidOut};
+ghost use Rattle.ic_parts.specs.declared.error.BookError.{BookError};
 ghost use Rattle.ic_grid.specs.Whole.{IsGrid};
 ghost use Rattle.ic_grid.specs.declared.grid.Grid.{Grid};
 ghost use Rattle.ic_sheets.specs.declared.tab.Tab.{Tab};

@@ -1,15 +1,11 @@
 //! What is told of the sheets in a list of them.
-ghost use Rattle.std.specs.Prelude.{◌≡◌, IfOk, chars, flat_map};
-ghost use Rattle.ic_cells.specs.Sheet.{state_word};
 ghost use Rattle.ic_machine.specs.subjects.Sheets.{GetWorksheetsProperties, sheet_step};
-ghost use Rattle.ic_book.specs.Does.{Does};
-ghost use Rattle.ic_book.specs.Fields.{fields_of_sheet, sheets_fields, told_sheet};
+ghost use Rattle.ic_parts.specs.Does.{Does};
+ghost use Rattle.ic_parts.specs.Fields.{sheets_fields};
 
 use crate::{BookError, Model};
-use ic_cells::{SheetProperties, SheetState};
-use ic_laws::{OutOfMemory, Text};
-use ic_sheets::Sheet;
-use std::alloc::Global;
+use ic_cells::SheetProperties;
+use ic_parts::properties::properties_of;
 
 impl<'a> Model<'a> {
     /// The name, the state (`visible`, `hidden` or `veryHidden`), the color and the id of each sheet, in their order. Only
@@ -19,40 +15,5 @@ impl<'a> Model<'a> {
             result self.now self.now }
     {
         Ok(properties_of(self.alloc, self.contents.sheets.as_slice())?)
-    }
-}
-
-/// What is told of these sheets.
-fn properties_of(alloc: Global, sheets: &[Sheet]) -> Result<Vec<SheetProperties>, OutOfMemory>
-    ensures { IfOk result
-        (λ all. flat_map fields_of_sheet all.items ≡ flat_map told_sheet sheets.now) }
-{
-    let mut all = Vec::new(alloc);
-    for sheet in sheets {
-        all.push(properties(alloc, sheet)?)?;
-    }
-    Ok(all)
-}
-
-/// What is told of a sheet.
-fn properties(alloc: Global, sheet: &Sheet) -> Result<SheetProperties, OutOfMemory>
-    ensures { IfOk result (λ told. fields_of_sheet told ≡ told_sheet sheet.now) }
-{
-    Ok(SheetProperties {
-        name: Text::from_str(alloc, sheet.name.as_str())?,
-        state: Text::from_str(alloc, state_word(sheet.tab.state))?,
-        color: sheet.tab.color.copy(alloc)?,
-        sheet_id: sheet.id,
-    })
-}
-
-/// The word of a state.
-fn state_word(state: SheetState) -> &'static str
-    ensures { chars result.now ≡ state_word state }
-{
-    match state {
-        SheetState::Visible => "visible",
-        SheetState::Hidden => "hidden",
-        SheetState::VeryHidden => "veryHidden",
     }
 }

@@ -4,14 +4,14 @@ ghost use Rattle.ic_machine.specs.Fields.{optional_style_fields};
 ghost use Rattle.ic_machine.specs.Reply.{number_field};
 ghost use Rattle.ic_machine.specs.Styling.{style_fields};
 ghost use Rattle.ic_machine.specs.subjects.Styles.{GetCellStyleIndex, GetCellStyleOrNone, GetColumnStyle, GetRowStyle, GetStyleForCell, SetColumnStyle, SetRowStyle, style_step};
-ghost use Rattle.ic_book.specs.Does.{Does, DoesOnly, DoesStep, Wanted};
-ghost use Rattle.ic_book.specs.Fields.{no_fields};
-ghost use Rattle.ic_book.specs.Styled.{line_style_step, set_line_step};
-ghost use Rattle.ic_book.specs.Whole.{whole_of};
+ghost use Rattle.ic_parts.specs.Does.{Does, DoesOnly, DoesStep, Wanted};
+ghost use Rattle.ic_parts.specs.Fields.{no_fields};
+ghost use Rattle.ic_parts.specs.Styled.{line_style_step, set_line_step};
+ghost use Rattle.ic_parts.specs.Whole.{whole_of};
 
-use crate::styled::{Line, check_line, copy_if_set, copy_of, line_style, own_style, style_line};
 use crate::{BookError, Model};
 use ic_cells::Style;
+use ic_parts::styled::{Line, check_line, copy_if_set, copy_of, line_style, own_style, style_line};
 
 impl<'a> Model<'a> {
     /// The number, from 0, of the style that is shown at a row and a column, both from 1, of the sheet at an index, from 0:

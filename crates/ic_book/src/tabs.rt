@@ -2,15 +2,15 @@
 ghost use Rattle.std.specs.Prelude.{◌≡◌, Ok};
 ghost use Rattle.ic_machine.specs.Reply.{position_field};
 ghost use Rattle.ic_machine.specs.subjects.Tabs.{GetFrozenColumnsCount, GetFrozenRowsCount, GetTheme, SetFrozenColumns, SetFrozenRows, SetSheetColor, SetSheetState, SetShowGridLines, SetTheme, tab_step};
-ghost use Rattle.ic_book.specs.Does.{Does, DoesOnly};
-ghost use Rattle.ic_book.specs.Fields.{no_fields, theme_field};
+ghost use Rattle.ic_parts.specs.Does.{Does, DoesOnly};
+ghost use Rattle.ic_parts.specs.Fields.{no_fields, theme_field};
 
-use crate::tab::{
-    freeze_columns, freeze_rows, frozen_columns, frozen_rows, paint, put_state, show_lines,
-};
 use crate::{BookError, Model};
 use ic_cells::{Color, SheetState, Theme};
 use ic_laws::Text;
+use ic_parts::tab::{
+    freeze_columns, freeze_rows, frozen_columns, frozen_rows, paint, put_state, show_lines,
+};
 
 impl<'a> Model<'a> {
     /// Keeps this many rows of the sheet at an index, from 0, in sight at the top.

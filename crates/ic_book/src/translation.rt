@@ -1,8 +1,5 @@
 //! What commands write by texts of their own, and how that is written in a notation which isn't in force.
-ghost use Rattle.std.specs.Prelude.{◌≡◌, ◌++◌, ◌∷◌, [], IfOk, IsSome, None, chars, string_bytes, if◌then◌else◌};
-ghost use Rattle.ic_laws.specs.Character.{equals};
-ghost use Rattle.ic_tables.specs.Tables.{IsWellFormed};
-ghost use Rattle.ic_tree.specs.Notations.{notations_of};
+ghost use Rattle.std.specs.Prelude.{◌≡◌, ◌++◌, IfOk, None, chars, string_bytes};
 ghost use Rattle.ic_grid.specs.Block.{block_at};
 ghost use Rattle.ic_machine.specs.Command.{OnArrays, OnDefinitions, OnWriting};
 ghost use Rattle.ic_machine.specs.Translation.{in_notation};
@@ -10,24 +7,23 @@ ghost use Rattle.ic_machine.specs.subjects.Arrays.{SetUserArrayFormula};
 ghost use Rattle.ic_machine.specs.subjects.Definitions.{NewDefinedName, UpdateDefinedName, update_of};
 ghost use Rattle.ic_machine.specs.subjects.Sheets.{new_sheet_name};
 ghost use Rattle.ic_machine.specs.subjects.Writing.{SetUserInput, UpdateCellWithFormula};
-ghost use Rattle.ic_book.specs.Book.{IsValidBook};
-ghost use Rattle.ic_book.specs.Refused.{RefusesOnly, refusal_of};
-ghost use Rattle.ic_book.specs.Translated.{IsToldAsked, IsToldOf, IsToldWhere, IsWrittenIn, formula_own, notation_refusal, shown_in};
-ghost use Rattle.ic_book.specs.Whole.{whole_of};
-ghost use Rattle.ic_book.specs.Written.{value_refusal};
+ghost use Rattle.ic_parts.specs.Book.{IsValidBook};
+ghost use Rattle.ic_parts.specs.Refused.{RefusesOnly};
+ghost use Rattle.ic_parts.specs.Translated.{IsToldAsked, IsToldOf, IsToldWhere, IsWrittenIn, formula_own, notation_refusal, shown_in};
+ghost use Rattle.ic_parts.specs.Whole.{whole_of};
+ghost use Rattle.ic_parts.specs.Written.{value_refusal};
 
-use crate::arrays::after_equals;
-use crate::definitions::{keys_of_update, updated_definition};
-use crate::formulas::after_sign;
-use crate::in_force::Notation;
-use crate::input::typed_formula;
-use crate::own_text::OwnText;
-use crate::written::typed_text;
-use crate::{BookError, Model};
+use crate::{BookError, Model, Notation, OwnText};
+use ic_changes::definitions::remaking::{keys_of_update, updated_definition};
 use ic_grid::Block;
 use ic_input::formula_without_prefix;
-use ic_laws::{Dialect, Formula, OutOfMemory};
-use ic_tree::{Shown, print_bound};
+use ic_laws::{Formula, OutOfMemory};
+use ic_parts::arrays::after_equals;
+use ic_parts::formulas::after_sign;
+use ic_parts::input::typed_formula;
+use ic_parts::translation::{dialect_in, none_unless_memory, sign_of};
+use ic_parts::written::typed_text;
+use ic_tree::print_bound;
 
 impl<'a> Model<'a> {
     /// The notation of a locale and a language of the tables, whichever is in force. It takes no memory.
@@ -319,32 +315,5 @@ impl<'a> Model<'a> {
             }
             Formula::Raw(text) => after_sign(self.alloc, sign, text.as_str()),
         }
-    }
-}
-
-/// How formulas are written in a notation, in the cell at a row and a column.
-fn dialect_in<'n>(target: &Notation<'n>, row: i32, column: i32) -> Shown<'n>
-    requires { IsWellFormed target.now.tables }
-    ensures { ⟦<Shown<'n> as Dialect>⟧.meaning result ≡ (notations_of target.now.tables).shown
-        target.now.locale target.now.language row column }
-{
-    let locale = &target.locale().locale;
-    Shown::new(target.tables(), locale, target.language(), row, column)
-}
-
-/// The sign that stands before a body.
-fn sign_of(has_equals: bool) -> &'static str
-    ensures { chars result.now ≡ (if has_equals then equals ∷ [] else []) }
-{
-    if has_equals { "=" } else { "" }
-}
-
-/// Nothing for a call that was refused; that memory ran out where it did.
-fn none_unless_memory(e: &BookError) -> Result<Option<OwnText>, OutOfMemory>
-    ensures { IfOk result (λ own. (own ≡ None) × IsSome (refusal_of e.now)) }
-{
-    match e {
-        BookError::OutOfMemory => Err(OutOfMemory),
-        _ => Ok(None),
     }
 }

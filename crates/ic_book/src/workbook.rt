@@ -1,21 +1,21 @@
 //! A book as the plain records of a workbook.
-ghost use Rattle.std.specs.Prelude.{◌≡◌, IfOk, None, chars, map};
+ghost use Rattle.std.specs.Prelude.{◌≡◌, IfOk, None, map};
 ghost use Rattle.ic_sheets.specs.Sheet.{sheet_of};
-ghost use Rattle.ic_book.specs.Book.{notations_in};
-ghost use Rattle.ic_book.specs.Refused.{Refuses};
-ghost use Rattle.ic_book.specs.Workbook.{body_in_english, body_text, defined_name_of, sign_of, stored_text, text_in, workbook_of, worksheet_of};
+ghost use Rattle.ic_parts.specs.Book.{notations_in};
+ghost use Rattle.ic_parts.specs.Refused.{Refuses};
+ghost use Rattle.ic_workbooks.specs.Workbook.{body_in_english, body_text, defined_name_of, sign_of, stored_text, text_in, workbook_of, worksheet_of};
 
-use crate::copies::{
+use crate::{BookError, Model};
+use ic_cells::{DefinedName, Theme, Workbook, Worksheet};
+use ic_definitions::Definition;
+use ic_laws::{Dialect, Formula, Items, OutOfMemory, Text};
+use ic_parts::copies::{
     copy_cells, copy_lines, copy_merges, copy_metadata, copy_styles, copy_text, copy_texts,
 };
-use crate::formulas::after_sign;
-use crate::{BookError, Model};
-use ic_cells::{DefinedName, Theme, Workbook, WorkbookSettings, Worksheet};
-use ic_definitions::Definition;
-use ic_laws::{Dialect, Finder, Formula, Items, OutOfMemory, Text};
+use ic_parts::formulas::after_sign;
 use ic_sheets::Sheet;
-use ic_tree::{Stored, print_bound};
-use std::alloc::Global;
+use ic_tree::Stored;
+use ic_workbooks::workbook::{settings_with, sign_of, text_in};
 
 impl<'a> Model<'a> {
     /// A copy of what the book holds, as plain records: its sheets in their order, each with its id, its name, its tab, its
@@ -175,36 +175,4 @@ impl<'a> Model<'a> {
     {
         Stored::new(self.notation.tables())
     }
-}
-
-/// The text of a formula in a form, with the names that things have in a scene.
-pub(crate) fn text_in<D: Dialect, N: Finder>(
-    alloc: Global,
-    d: &D,
-    names: &N,
-    formula: &Formula,
-) -> Result<Text, OutOfMemory>
-    ensures { IfOk result (λ text. text
-        ≡ text_in (D.meaning d.now) (N.scene names.now) formula.now) }
-{
-    match formula {
-        Formula::Tree(tree) => Ok(Text::from(print_bound(alloc, d, names, "", tree)?)),
-        Formula::Raw(text) => Ok(Text::from(after_sign(alloc, ")", text.as_str())?)),
-    }
-}
-
-/// The equals sign of a body that was typed with one, and nothing for another.
-fn sign_of(has_equals: bool) -> &'static str
-    ensures { chars result.now ≡ sign_of has_equals }
-{
-    if has_equals { "=" } else { "" }
-}
-
-/// The settings of a workbook.
-fn settings_with(alloc: Global, zone: &Text, locale: &Text) -> Result<WorkbookSettings, OutOfMemory>
-    ensures { IfOk result (λ settings. settings ≡ record { tz = zone.now; locale = locale.now }) }
-{
-    let tz = copy_text(alloc, zone)?;
-    let locale = copy_text(alloc, locale)?;
-    Ok(WorkbookSettings { tz, locale })
 }

@@ -38,11 +38,11 @@ ran_on bytes rest line behind old mid new ran first book reply = record {
   };
 }
 
--- memory ran out behind those that were
-pub ran_first : (bytes rest : List ℕ) (old mid new : Open) → Ran bytes rest old mid → book_of new ≡ book_of mid → reply_of new ≡ reply_of mid → AnsweredFirst (texts_of bytes) old new
-ran_first bytes rest old mid new ran book reply = record {
+-- memory ran out behind those that were, at one that is left
+pub ran_first : (bytes rest line behind : List ℕ) (old mid new : Open) → Ran bytes rest old mid → BeginsLine rest line behind → book_of new ≡ book_of mid → reply_of new ≡ reply_of mid → AnsweredFirst (texts_of bytes) old new
+ran_first bytes rest line behind old mid new ran first book reply = record {
   count = length ran.done;
-  within = omega (arith, ap length ran.split, length-append ran.done (texts_of rest));
+  fewer = omega (arith, ap length ran.split, length-append ran.done (texts_of rest), ap length first.lines);
   first = subst (λ (lines : List (List ℕ)). Answered lines old new)
       (sym (ap (take (length ran.done)) ran.split ∙ take-append_seam ran.done (texts_of rest))) (record { book = book ∙ ran.answered.book; reply = reply ∙ ran.answered.reply });
 }

@@ -18,10 +18,10 @@ pub record Answered (lines : List (List ℕ)) (old new : Open) : Type 0 where
   pub book : book_of new ≡ after whole_machine (book_of old) lines
   pub reply : reply_of new ≡ replies whole_machine (book_of old) lines
 
--- it answered the first so many of them
+-- it answered the first so many of them, and not all
 pub record AnsweredFirst (lines : List (List ℕ)) (old new : Open) : Type 0 where
   pub count : ℕ
-  pub within : count ≤ length lines
+  pub fewer : count < length lines
   pub first : Answered (take count lines) old new
 
 -- The reply stands at the front of what was room for it, where that has enough, with the status 0; and else nothing was

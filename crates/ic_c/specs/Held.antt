@@ -8,7 +8,7 @@ use Rattle.std.specs.declared.alloc.Global.{Global}
 use Rattle.std.specs.contracts.impls.GlobalAllocator.TheImpl.{ghosts}
 use Rattle.ic_tables.specs.Tables.{TableSet}
 use Rattle.ic_machine.specs.Book.{Book}
-use Rattle.ic_book.specs.Whole.{whole_of}
+use Rattle.ic_parts.specs.Whole.{whole_of}
 use Rattle.ic_c.specs.declared.session.Open.{Open}
 use Rattle.ic_c.specs.declared.session.Session.{Session}
 

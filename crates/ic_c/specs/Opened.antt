@@ -4,9 +4,9 @@ use Rattle.std.specs.List.{AllByRecursion}
 use Rattle.ic_laws.specs.Refusal.{InvalidLanguage, InvalidLocale, InvalidTimezone, Refusal}
 use Rattle.ic_tables.specs.Sample.{sample}
 use Rattle.ic_tables.specs.Tables.{TableSet}
-use Rattle.ic_book.specs.Book.{new_book, new_book_refusal}
-use Rattle.ic_book.specs.declared.error.BookError.{BookError}
-use Rattle.ic_book.specs.declared.error.BookError.TheVariants as errors
+use Rattle.ic_parts.specs.Book.{new_book, new_book_refusal}
+use Rattle.ic_parts.specs.declared.error.BookError.{BookError}
+use Rattle.ic_parts.specs.declared.error.BookError.TheVariants as errors
 use Rattle.ic_c.specs.Held.{open_in, reply_of, tables_in}
 use Rattle.ic_c.specs.declared.session.Open.{Open}
 use Rattle.ic_c.specs.declared.session.Session.{Session}

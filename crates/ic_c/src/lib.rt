@@ -97,7 +97,11 @@ pub extern "C" fn lurvetta_open(
     ensures tables { KeepsTables tables.old.held tables.new.held }
     ensures not_utf8 { result ≡ 4
         → ¬ AreUtf8 (name.now ∷ locale.now ∷ language.now ∷ zone.now ∷ []) }
+    ensures utf8 { result ≢ 4
+        → AreUtf8 (name.now ∷ locale.now ∷ language.now ∷ zone.now ∷ []) }
     ensures no_moment { result ≡ 8 → ¬ IsTimestampNanos (milliseconds *ℤ pos 1_000_000) }
+    ensures moment { result ≢ 4 → result ≢ 8
+        → IsTimestampNanos (milliseconds *ℤ pos 1_000_000) }
     ensures refused { (result ≡ 1) ⊎ IsRefusal result → NoBook (record {
       name = chars name.now;
       locale = chars locale.now;
@@ -158,8 +162,8 @@ pub extern "C" fn lurvetta_answer(
 /// ends with a line feed, too.
 ///
 /// `OK`: the replies stand in `out`. `NO_ROOM`: all lines were answered, and the replies are kept for `lurvetta_copy`.
-/// `NO_MEMORY`: some of the first lines were answered, and the replies to these are kept. `NOT_OPEN`: the room has no book.
-/// `told` is the length of the replies that are kept then.
+/// `NO_MEMORY`: some of the first lines were answered, never all, and the replies to these are kept. `NOT_OPEN`: the room has
+/// no book. `told` is the length of the replies that are kept then.
 #[unsafe(no_mangle)]
 pub extern "C" fn lurvetta_run(
     alloc: Global,

@@ -7,7 +7,7 @@ ghost use Rattle.ic_c.specs.Held.{book_of, reply_of};
 ghost use Rattle.ic_c.specs.Opened.{IsNew, TellsRefusal, error_status, wanted_refusal};
 ghost use Rattle.ic_c.specs.Wanted.{wanted};
 
-use crate::lines::{first_line, text_of};
+use crate::lines::first_line;
 use crate::status::{
     INVALID_LANGUAGE, INVALID_LOCALE, INVALID_TIMEZONE, NO_MEMORY, NO_ROOM, NOT_OPEN, OK,
 };
@@ -15,6 +15,7 @@ use crate::wanted::Wanted;
 use ic_book::{BookError, Model};
 use ic_commands::reply_to_text;
 use ic_laws::OutOfMemory;
+use ic_lines::text_of;
 use ic_tables::{Tables, sample_tables};
 use std::alloc::Global;
 use std::mem;
@@ -113,7 +114,8 @@ impl Open {
         self.step(alloc, text_of(line))
     }
 
-    /// Answers the lines of the bytes. Where memory runs out some of the first were answered, and their replies are kept.
+    /// Answers the lines of the bytes. Where memory runs out some of the first were answered, never all, and their replies
+    /// are kept.
     pub fn run(&mut self, alloc: Global, bytes: &[u8]) -> Result<(), OutOfMemory>
         ensures ok { OnOk result (Answered (texts_of bytes.now) self.old self.new) }
         ensures err { OnErr result (AnsweredFirst (texts_of bytes.now) self.old self.new) }

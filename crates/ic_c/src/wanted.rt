@@ -1,7 +1,7 @@
 //! How a book is asked for.
-ghost use Rattle.std.specs.Prelude.{◌≡◌, ◌⊎◌, [], ◌∷◌, Err, IfErr, IfOk, chars, pos, ◌*ℤ◌};
-ghost use Rattle.ic_book.specs.Book.{new_book};
-ghost use Rattle.ic_book.specs.Refused.{Refuses};
+ghost use Rattle.std.specs.Prelude.{◌≡◌, ◌≢◌, ◌⊎◌, [], ◌∷◌, Err, IfErr, IfOk, IsOk, MatchResult, chars, pos, ◌*ℤ◌};
+ghost use Rattle.ic_parts.specs.Book.{new_book};
+ghost use Rattle.ic_parts.specs.Refused.{Refuses};
 ghost use Rattle.ic_c.specs.Opened.{AreUtf8, wanted_refusal};
 ghost use Rattle.jiff_core.specs.Timestamp.{IsTimestampNanos};
 ghost use Rattle.ic_c.specs.Wanted.{wanted};
@@ -60,7 +60,11 @@ pub fn wanted_of<'a>(
     ensures which { IfErr result (λ status. (status ≡ 4) ⊎ (status ≡ 8)) }
     ensures not_utf8 { result ≡ Err 4
         → ¬ AreUtf8 (name.now ∷ locale.now ∷ language.now ∷ zone.now ∷ []) }
+    ensures utf8 { MatchResult result
+        (λ _. AreUtf8 (name.now ∷ locale.now ∷ language.now ∷ zone.now ∷ []))
+        (λ e. e ≢ 4 → AreUtf8 (name.now ∷ locale.now ∷ language.now ∷ zone.now ∷ [])) }
     ensures no_moment { result ≡ Err 8 → ¬ IsTimestampNanos (milliseconds *ℤ pos 1_000_000) }
+    ensures moment { IsOk result → IsTimestampNanos (milliseconds *ℤ pos 1_000_000) }
 {
     let Ok(name) = str::from_utf8(name) else {
         return Err(NOT_UTF8);

@@ -2,7 +2,7 @@
 ghost use Rattle.std.specs.Prelude.{◌≡◌, ◌<◌, IfSome, Some};
 ghost use Rattle.std.specs.List.{slice_get};
 ghost use Rattle.ic_laws.specs.ValidCore.{IsPooled};
-ghost use Rattle.ic_book.specs.Book.{notations_in, scene_in};
+ghost use Rattle.ic_parts.specs.Book.{notations_in, scene_in};
 
 use crate::books::{Books, put_book_error};
 use crate::handed_in::put_handed_in;

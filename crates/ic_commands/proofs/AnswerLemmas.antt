@@ -11,13 +11,13 @@ use Rattle.ic_machine.specs.Reply.{Field, Reply, reply_bytes, reply_text}
 use Rattle.ic_machine.specs.Step.{command_step, outcome_of, step}
 use Rattle.ic_words.specs.Reply.{IsLineText}
 use Rattle.ic_words.proofs.ReplyLemmas.{refusal_line}
-use Rattle.ic_book.specs.Book.{ModelState}
-use Rattle.ic_book.specs.Refused.{refusal_of}
-use Rattle.ic_book.specs.declared.error.BookError.{BookError}
-use Rattle.ic_book.specs.declared.error.BookError.TheVariants as errors
+use Rattle.ic_parts.specs.Book.{ModelState}
+use Rattle.ic_parts.specs.Refused.{refusal_of}
+use Rattle.ic_parts.specs.declared.error.BookError.{BookError}
+use Rattle.ic_parts.specs.declared.error.BookError.TheVariants as errors
 use Rattle.ic_commands.specs.Answered.{Answers, IsAnswered, Keeps, Stays, Tells, is_on_notation}
-use Rattle.ic_book.specs.Does.{DoesStep, Memory, Never, Refused, Wanted, WantedIn, WantedOr, WantedOrWhole, WantedWhere}
-use Rattle.ic_book.specs.Whole.{whole_of}
+use Rattle.ic_parts.specs.Does.{DoesStep, Memory, Never, Refused, Wanted, WantedIn, WantedOr, WantedOrWhole, WantedWhere}
+use Rattle.ic_parts.specs.Whole.{whole_of}
 
 -- every error but that memory ran out tells a refusal
 pub tells : (e : BookError) → e ≢ errors.OutOfMemory → (refusal : Refusal) × (refusal_of e ≡ Some refusal)

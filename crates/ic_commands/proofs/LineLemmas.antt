@@ -6,8 +6,8 @@ use Rattle.ic_machine.specs.Reply.{reply_bytes, reply_text}
 use Rattle.ic_machine.specs.Step.{command_step, english_errors}
 use Rattle.ic_words.specs.Reply.{IsLineText}
 use Rattle.ic_words.proofs.ReplyLemmas.{refusal_line}
-use Rattle.ic_book.specs.Book.{ModelState}
-use Rattle.ic_book.specs.Whole.{whole_of}
+use Rattle.ic_parts.specs.Book.{ModelState}
+use Rattle.ic_parts.specs.Whole.{whole_of}
 use Rattle.ic_commands.specs.Answered.{AreValid, DoesLine, IsAnswered, StaysAfter}
 
 module _ (line : List ℕ) where

@@ -9,10 +9,10 @@ use Rattle.ic_machine.specs.Readers.{is_reader}
 use Rattle.ic_machine.specs.Reply.{Field, Reply, reply_bytes, reply_text}
 use Rattle.ic_machine.specs.Step.{command_step, english_errors, line_step, step}
 use Rattle.ic_words.specs.Reply.{IsLineText}
-use Rattle.ic_book.specs.Book.{Book, IsValidBook, ModelState}
-use Rattle.ic_book.specs.declared.error.BookError.{BookError}
-use Rattle.ic_book.specs.Does.{DoesStep, Memory}
-use Rattle.ic_book.specs.Whole.{whole_of}
+use Rattle.ic_parts.specs.Book.{Book, IsValidBook, ModelState}
+use Rattle.ic_parts.specs.declared.error.BookError.{BookError}
+use Rattle.ic_parts.specs.Does.{DoesStep, Memory}
+use Rattle.ic_parts.specs.Whole.{whole_of}
 
 -- a command on the locale, the language and the zone
 abbrev pub is_on_notation : Command → Bool

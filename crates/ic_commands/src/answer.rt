@@ -6,7 +6,7 @@ ghost use Rattle.ic_machine.specs.Step.{english_errors, line_step};
 ghost use Rattle.ic_lines.specs.Reading.{has_line_feed};
 ghost use Rattle.ic_words.specs.Command.{command_meant};
 ghost use Rattle.ic_words.specs.Reply.{reply_room};
-ghost use Rattle.ic_book.specs.Whole.{whole_of};
+ghost use Rattle.ic_parts.specs.Whole.{whole_of};
 ghost use Rattle.ic_commands.specs.Answered.{Answers, DoesLine, LeavesLine};
 
 mod arrays;

@@ -5,8 +5,8 @@ ghost use Rattle.ic_machine.specs.Fields.{named_sheet_fields};
 ghost use Rattle.ic_machine.specs.Refusal.{Refusal};
 ghost use Rattle.ic_machine.specs.Reply.{reply_bytes};
 ghost use Rattle.ic_words.specs.Reply.{reply_room};
-ghost use Rattle.ic_book.specs.Refused.{refusal_of};
-ghost use Rattle.ic_book.specs.declared.error.BookError.TheVariants as errors;
+ghost use Rattle.ic_parts.specs.Refused.{refusal_of};
+ghost use Rattle.ic_parts.specs.declared.error.BookError.TheVariants as errors;
 ghost use Rattle.ic_commands.specs.Answered.{Tells};
 
 use ic_book::BookError;

@@ -10,8 +10,8 @@ use Rattle.ic_laws.specs.CoreBook.{Cells, CoreBook, Sheet, last_id, scene_of}
 use Rattle.ic_laws.specs.Notations.{Notations}
 use Rattle.ic_laws.specs.declared.scene.SheetName.{SheetName}
 use Rattle.ic_sheets.specs.Sheet.{sheet_core}
-use Rattle.ic_book.specs.Book.{Book, IsValidBook, core_of, whole_sheet}
-use Rattle.ic_book.specs.Lent.{placed}
+use Rattle.ic_parts.specs.Book.{Book, IsValidBook, core_of, whole_sheet}
+use Rattle.ic_parts.specs.Lent.{placed}
 use Rattle.ic_dump.specs.Lines.{Text, cell_lines_from, lines_of_cells}
 use Rattle.ic_dump.specs.Records.{core_seen}
 use Rattle.ic_dump.specs.declared.sheets.SheetSeen.{SheetSeen}

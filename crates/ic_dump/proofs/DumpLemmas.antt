@@ -11,9 +11,9 @@ use Rattle.ic_laws.specs.declared.tree.Formula.{Formula}
 use Rattle.ic_laws.specs.declared.tree.Formula.TheVariants as formulas
 use Rattle.ic_laws.specs.declared.tree.NameKey.{NameKey}
 use Rattle.ic_machine.specs.Refusal.{Site}
-use Rattle.ic_book.specs.Book.{Book, core_of, notations_in}
+use Rattle.ic_parts.specs.Book.{Book, core_of, notations_in}
 use Rattle.ic_sheets.specs.Sheet.{sheet_core}
-use Rattle.ic_book.specs.Workbook.{body_text, defined_name_of}
+use Rattle.ic_workbooks.specs.Workbook.{body_text, defined_name_of}
 use Rattle.ic_dump.specs.Lines.{Text, body_line, body_lines, defining_line, defining_lines, deleting_line, deleting_lines, english_body}
 use Rattle.ic_dump.specs.Passing.{free_numerals, passing_ids, passing_sheets, sheet_named, standing_sheets, taken_names}
 use Rattle.ic_dump.specs.Records.{name_seen}

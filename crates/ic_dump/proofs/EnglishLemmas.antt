@@ -7,13 +7,13 @@ use Rattle.ic_laws.specs.Character.{equals}
 use Rattle.ic_laws.specs.CoreBook.{CoreBook}
 use Rattle.ic_laws.specs.FormulaReading.{shown_formula}
 use Rattle.ic_laws.specs.declared.tree.Formula.{Formula}
-use Rattle.ic_book.proofs.WholeLemmas.{whole_core}
-use Rattle.ic_book.specs.Book.{Book, IsValidBook, NotationState, core_of, notations_in, whole_of}
+use Rattle.ic_parts.proofs.WholeLemmas.{whole_core}
+use Rattle.ic_parts.specs.Book.{Book, IsValidBook, NotationState, core_of, notations_in, whole_of}
 use Rattle.ic_dump.specs.English.{IsEnglish}
 use Rattle.ic_dump.specs.Lines.{english_formula, in_english}
-use Rattle.ic_book.specs.Refused.{TellsCore}
-use Rattle.ic_book.specs.Translated.{notation_refusal, shown_in}
-use Rattle.ic_book.specs.declared.error.BookError.{BookError}
+use Rattle.ic_parts.specs.Refused.{TellsCore}
+use Rattle.ic_parts.specs.Translated.{notation_refusal, shown_in}
+use Rattle.ic_parts.specs.declared.error.BookError.{BookError}
 use Rattle.ic_tables.proofs.Lookups.{is_some-find}
 use Rattle.ic_tables.proofs.WellFormed.{has_english}
 use Rattle.ic_tables.specs.declared.language.Language.{Language}

@@ -9,8 +9,8 @@ use Rattle.ic_tables.specs.Tables.{TableSet}
 use Rattle.ic_machine.specs.Book.{Book, core_of}
 use Rattle.ic_machine.specs.Refusal.{Site}
 use Rattle.ic_machine.specs.Run.{after}
-use Rattle.ic_book.specs.Book as held
-use Rattle.ic_book.proofs.WholeLemmas.{whole_core}
+use Rattle.ic_parts.specs.Book as held
+use Rattle.ic_parts.proofs.WholeLemmas.{whole_core}
 use Rattle.ic_run.specs.Core.{whole_machine}
 use Rattle.ic_run.specs.Make.{made_start}
 use Rattle.ic_run.specs.Prepared.{IsLeftBySome}

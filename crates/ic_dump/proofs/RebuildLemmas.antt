@@ -2,8 +2,8 @@
 use Rattle.std.proofs.Common.{◌≡◌, ◌∙◌, List, None, ap, subst, sym}
 use Rattle.ic_laws.specs.CoreBook.{CoreBook}
 use Rattle.ic_machine.specs.Book as machine
-use Rattle.ic_book.proofs.WholeLemmas.{whole_core}
-use Rattle.ic_book.specs.Book.{Book, IsValidBook, core_of, notations_in, whole_of}
+use Rattle.ic_parts.proofs.WholeLemmas.{whole_core}
+use Rattle.ic_parts.specs.Book.{Book, IsValidBook, core_of, notations_in, whole_of}
 use Rattle.ic_dump.specs.Lines.{Text, dump_lines}
 use Rattle.ic_dump.specs.Rebuilds.{Rebuilds}
 use Rattle.ic_dump.specs.Refused.{cause_of}

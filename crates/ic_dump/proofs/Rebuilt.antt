@@ -8,8 +8,8 @@ use Rattle.ic_laws.specs.Refusal.{InvalidLanguage, InvalidLocale, InvalidTimezon
 use Rattle.ic_tables.specs.Tables.{TableSet, language_of, lists_zone, locale_of}
 use Rattle.ic_machine.specs.Book.{Book, Sheet, core_of, notations_in}
 use Rattle.ic_machine.specs.Valid.{IsValidBook}
-use Rattle.ic_book.proofs.StartLemmas.{new_book_valid}
-use Rattle.ic_book.proofs.WholeLemmas.{whole_empty}
+use Rattle.ic_parts.proofs.StartLemmas.{new_book_valid}
+use Rattle.ic_parts.proofs.WholeLemmas.{whole_empty}
 use Rattle.ic_run.specs.Desk.{start_refusal}
 use Rattle.ic_run.specs.Make.{made_setting, made_start}
 use Rattle.ic_dump.specs.Lines.{dump_lines, in_english}

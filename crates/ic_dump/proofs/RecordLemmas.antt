@@ -5,8 +5,8 @@ use Rattle.std.specs.Prelude.{flat_map}
 use Rattle.ic_laws.specs.CoreBook.{Definition, Sheet, ids_of, names_of, scene_of}
 use Rattle.ic_laws.specs.declared.scene.SheetName.{SheetName}
 use Rattle.ic_cells.specs.declared.workbook.DefinedName.{DefinedName}
-use Rattle.ic_book.specs.Book.{Book, core_of}
-use Rattle.ic_book.specs.Workbook.{defined_name_of}
+use Rattle.ic_parts.specs.Book.{Book, core_of}
+use Rattle.ic_workbooks.specs.Workbook.{defined_name_of}
 use Rattle.ic_dump.specs.Passing.{free_numerals, other_ids, passing_ids, sheet_named, standing_sheets, taken_names}
 use Rattle.ic_dump.specs.Records.{core_seen}
 use Rattle.ic_dump.specs.declared.sheets.SheetSeen.{SheetSeen}

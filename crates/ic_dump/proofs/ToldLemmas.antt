@@ -2,8 +2,8 @@
 use Rattle.std.proofs.Common.{◌≡◌, ◌++◌, ◌∙◌, ℕ, List, None, Some, ap, subst, sym}
 use Rattle.ic_lines.specs.Bytes.{AppendsFront}
 use Rattle.ic_machine.specs.Refusal.{Site}
-use Rattle.ic_book.proofs.WholeLemmas.{whole_core}
-use Rattle.ic_book.specs.Book.{Book, core_of, notations_in, whole_of}
+use Rattle.ic_parts.proofs.WholeLemmas.{whole_core}
+use Rattle.ic_parts.specs.Book.{Book, core_of, notations_in, whole_of}
 use Rattle.ic_dump.specs.Lines.{dump_lines}
 use Rattle.ic_dump.specs.Rebuilds.{Rebuilds}
 use Rattle.ic_dump.specs.Refused.{Rereads, cause_of}

@@ -10,7 +10,7 @@ use Rattle.ic_laws.specs.CoreBook.{Sheet}
 use Rattle.ic_laws.specs.Name.{agrees, fold}
 use Rattle.ic_laws.specs.declared.scene.NameSpelling.{NameSpelling}
 use Rattle.ic_laws.specs.declared.scene.SheetName.{SheetName}
-use Rattle.ic_book.specs.Lent.{placed}
+use Rattle.ic_parts.specs.Lent.{placed}
 use Rattle.ic_dump.specs.Passing.{other_ids}
 use Rattle.ic_dump.specs.declared.sheets.SheetSeen.{SheetSeen}
 

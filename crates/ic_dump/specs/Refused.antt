@@ -10,7 +10,7 @@ use Rattle.ic_laws.specs.declared.tree.Formula.{Formula}
 use Rattle.ic_laws.specs.declared.tree.Formula.TheVariants as formulas
 use Rattle.ic_laws.specs.declared.tree.NameKey.{NameKey}
 use Rattle.ic_machine.specs.Refusal.{CellSite, Site}
-use Rattle.ic_book.specs.Sites.{site_of}
+use Rattle.ic_parts.specs.Sites.{site_of}
 use Rattle.ic_dump.specs.Passing.{formulas_in}
 use Rattle.ic_dump.specs.declared.error.DumpError.{DumpError}
 use Rattle.ic_dump.specs.declared.error.DumpError.TheVariants as errors

@@ -1,7 +1,7 @@
 //! A book as command lines.
 ghost use Rattle.std.specs.Prelude.{◌≡◌, IfOk, None, OnOk, map};
-ghost use Rattle.ic_book.specs.Book.{core_of, notations_in};
-ghost use Rattle.ic_book.specs.Workbook.{defined_name_of};
+ghost use Rattle.ic_parts.specs.Book.{core_of, notations_in};
+ghost use Rattle.ic_workbooks.specs.Workbook.{defined_name_of};
 ghost use Rattle.ic_dump.specs.English.{IsEnglish};
 ghost use Rattle.ic_dump.specs.Lines.{dump_lines};
 ghost use Rattle.ic_dump.specs.Rebuilds.{Rebuilds};

@@ -3,7 +3,7 @@ ghost use Rattle.std.specs.Prelude.{◌≡◌, ◌++◌, IfOk, chars, codes, is_
 ghost use Rattle.ic_laws.specs.Notations.{english};
 ghost use Rattle.ic_laws.specs.ReadAs.{read_as};
 ghost use Rattle.ic_tree.specs.Notations.{notations_of};
-ghost use Rattle.ic_book.specs.Book.{Book, IsValidBook, core_of, notations_in};
+ghost use Rattle.ic_parts.specs.Book.{Book, IsValidBook, core_of, notations_in};
 ghost use Rattle.ic_dump.specs.English.{IsEnglish};
 ghost use Rattle.ic_dump.specs.Lines.{english_formula};
 ghost use Rattle.ic_dump.specs.Refused.{is_read};

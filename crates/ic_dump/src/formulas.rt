@@ -1,8 +1,8 @@
 //! The lines that write the formulas of cells.
 ghost use Rattle.std.specs.Prelude.{◌≡◌, ◌++◌, ℕ, IfOk, OnOk, chars, map};
 ghost use Rattle.std.specs.Fmt.{decimal};
-ghost use Rattle.ic_book.specs.Book.{core_of, notations_in};
-ghost use Rattle.ic_book.specs.Lent.{placed};
+ghost use Rattle.ic_parts.specs.Book.{core_of, notations_in};
+ghost use Rattle.ic_parts.specs.Lent.{placed};
 ghost use Rattle.ic_dump.specs.English.{IsEnglish};
 ghost use Rattle.ic_dump.specs.Lines.{cell_line, cell_lines_from, english_formula, lines_of_cells};
 ghost use Rattle.ic_dump.specs.Records.{core_seen};

@@ -2,8 +2,8 @@
 ghost use Rattle.std.specs.Prelude.{◌≡◌, IfOk, Some, map};
 ghost use Rattle.std.specs.List.{slice_get};
 ghost use Rattle.ic_laws.specs.CoreBook.{Sheet};
-ghost use Rattle.ic_book.specs.Book.{IsValidBook, core_of, scene_in};
-ghost use Rattle.ic_book.specs.Lent.{placed};
+ghost use Rattle.ic_parts.specs.Book.{IsValidBook, core_of, scene_in};
+ghost use Rattle.ic_parts.specs.Lent.{placed};
 ghost use Rattle.ic_dump.specs.Records.{core_seen};
 
 use ic_book::{Model, PlacedFormula};

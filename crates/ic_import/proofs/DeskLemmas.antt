@@ -23,7 +23,7 @@ use Rattle.ic_import.specs.Import.{Leaves, NoText, Outcome, Outside, Refused, Re
 use Rattle.ic_import.specs.Placed.{first_outside}
 use Rattle.ic_import.specs.Records.{Field, first_no_text}
 use Rattle.ic_import.specs.Typed.{Blocked, typed}
-use Rattle.ic_book.specs.declared.error.BookError.{BookError}
+use Rattle.ic_parts.specs.declared.error.BookError.{BookError}
 use Rattle.ic_import.specs.declared.error.ImportError.{ImportError}
 use Rattle.ic_import.specs.declared.error.ImportError.TheVariants as errors
 use Rattle.ic_import.proofs.PlainTyping.{all_typed}

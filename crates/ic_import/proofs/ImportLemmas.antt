@@ -8,9 +8,9 @@ use Rattle.ic_laws.specs.CoreStep.{core_step}
 use Rattle.ic_laws.specs.CoreBook.{CellPlace}
 use Rattle.ic_cells.specs.declared.workbook.Workbook.{Workbook}
 use Rattle.std.specs.Option.{option_map_or}
-use Rattle.ic_book.specs.Asked.{TellsHandedIn}
-use Rattle.ic_book.specs.HandedIn.{book_of}
-use Rattle.ic_book.specs.Workbook.{workbook_of}
+use Rattle.ic_workbooks.specs.Asked.{TellsHandedIn}
+use Rattle.ic_workbooks.specs.HandedIn.{book_of}
+use Rattle.ic_workbooks.specs.Workbook.{workbook_of}
 use Rattle.ic_laws.specs.Position.{is_column, is_row}
 use Rattle.ic_laws.specs.Refusal as refusals
 use Rattle.ic_tables.specs.Tables.{TableSet, language_of, locale_of}
@@ -29,16 +29,16 @@ use Rattle.ic_machine.specs.Reply.{Field as Told, text_field}
 use Rattle.ic_machine.specs.subjects.Notation.{GetLanguage, GetLocale, SetLanguage, SetLocale, get_language_step, get_locale_step, notation_step, set_language_step, set_locale_step}
 use Rattle.ic_machine.specs.subjects.Reading.{IsEmptyCell, empty_step, reading_step}
 use Rattle.ic_machine.proofs.InsertedStays.{none_holds}
-use Rattle.ic_book.proofs.ExtendLemmas.{none_past, some_within}
-use Rattle.ic_book.proofs.HandedInLemmas.{read_back}
-use Rattle.ic_book.proofs.TakenAgain.{taken_again}
-use Rattle.ic_book.specs.Book.{Book, IsValidBook, ModelState}
-use Rattle.ic_book.specs.Does.{Does, DoesOnly, Made, Never, Refused}
-use Rattle.ic_book.specs.Fields.{no_fields, string_only}
-use Rattle.ic_book.specs.Refused.{refusal_of}
-use Rattle.ic_book.specs.Whole.{whole_of}
-use Rattle.ic_book.specs.declared.error.BookError.{BookError}
-use Rattle.ic_book.specs.declared.error.BookError.TheVariants as book
+use Rattle.ic_parts.proofs.ExtendLemmas.{none_past, some_within}
+use Rattle.ic_workbooks.proofs.HandedInLemmas.{read_back}
+use Rattle.ic_workbooks.proofs.TakenAgain.{taken_again}
+use Rattle.ic_parts.specs.Book.{Book, IsValidBook, ModelState}
+use Rattle.ic_parts.specs.Does.{Does, DoesOnly, Made, Never, Refused}
+use Rattle.ic_parts.specs.Fields.{no_fields, string_only}
+use Rattle.ic_parts.specs.Refused.{refusal_of}
+use Rattle.ic_parts.specs.Whole.{whole_of}
+use Rattle.ic_parts.specs.declared.error.BookError.{BookError}
+use Rattle.ic_parts.specs.declared.error.BookError.TheVariants as book
 use Rattle.ic_import.proofs.TypingLemmas.{IsBlock, TypesLike, memory_alone, types_like}
 use Rattle.ic_import.specs.Import.{BlocksRightly, IsBlocking, IsMet, IsOfBytes, IsOfReading, IsOfRequest, IsOfTyping, NoText, Outside, Outcome, Refused as RefusedField, RefusesRequest, Request, RestsOnBytes, Tells, TellsTyping, TellsWrong, Leaves, in_notation, outcome_of, request_causes, request_refusal, typed_outcome, typing_outcome}
 use Rattle.ic_import.specs.Placed.{first_outside, number_of}

@@ -20,13 +20,13 @@ use Rattle.ic_machine.specs.InForce.{typed_in}
 use Rattle.ic_machine.specs.Refusal.{ArrayPart, InvalidColumn, InvalidRow, InvalidSheet, MergedPart, Refusal, first_refusal}
 use Rattle.ic_machine.specs.Reply.{Field as Told}
 use Rattle.ic_machine.specs.subjects.Writing.{SetUserInput, input_step, typed_written, with_written, writing_step}
-use Rattle.ic_book.proofs.ExtendLemmas.{none_past}
-use Rattle.ic_book.specs.Book.{ModelState}
-use Rattle.ic_book.specs.Does.{Refused, WantedIn}
-use Rattle.ic_book.specs.Refused.{refusal_of}
-use Rattle.ic_book.specs.Whole.{whole_of}
-use Rattle.ic_book.specs.declared.error.BookError.{BookError}
-use Rattle.ic_book.specs.declared.error.BookError.TheVariants as book
+use Rattle.ic_parts.proofs.ExtendLemmas.{none_past}
+use Rattle.ic_parts.specs.Book.{ModelState}
+use Rattle.ic_parts.specs.Does.{Refused, WantedIn}
+use Rattle.ic_parts.specs.Refused.{refusal_of}
+use Rattle.ic_parts.specs.Whole.{whole_of}
+use Rattle.ic_parts.specs.declared.error.BookError.{BookError}
+use Rattle.ic_parts.specs.declared.error.BookError.TheVariants as book
 use Rattle.ic_import.specs.Placed.{is_in_sheet, is_outside, number_of, place_of}
 use Rattle.ic_import.specs.Records.{Field, fields_in, is_no_text}
 use Rattle.ic_import.specs.Typed.{Blocked, TellsBlocked, Typable, error_of, go_on, type_field, typed}

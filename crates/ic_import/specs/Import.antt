@@ -11,9 +11,9 @@ use Rattle.ic_tree.specs.Shown.{list_separator}
 use Rattle.ic_lines.specs.Bytes.{IfTold}
 use Rattle.ic_machine.specs.Book.{Book, lacks_sheet}
 use Rattle.ic_machine.specs.Refusal.{Causes, InvalidColumn, InvalidRow, InvalidSheet, OfCore, Refusal, first_refusal}
-use Rattle.ic_book.specs.Refused.{refusal_of}
-use Rattle.ic_book.specs.declared.error.BookError.{BookError}
-use Rattle.ic_book.specs.declared.error.BookError.TheVariants as book
+use Rattle.ic_parts.specs.Refused.{refusal_of}
+use Rattle.ic_parts.specs.declared.error.BookError.{BookError}
+use Rattle.ic_parts.specs.declared.error.BookError.TheVariants as book
 use Rattle.ic_import.specs.Placed.{Finds, first_outside}
 use Rattle.ic_import.specs.Records.{Field, all_fields, first_no_text, records_of}
 use Rattle.ic_import.specs.Typed.{Blocked, typed}

@@ -4,9 +4,9 @@ use Rattle.ic_laws.specs.CoreBook.{CellPlace}
 use Rattle.ic_machine.specs.Book.{Book, Stepped}
 use Rattle.ic_machine.specs.Refusal.{Refusal}
 use Rattle.ic_machine.specs.subjects.Writing.{SetUserInput, writing_step}
-use Rattle.ic_book.specs.Refused.{refusal_of}
-use Rattle.ic_book.specs.declared.error.BookError.{BookError}
-use Rattle.ic_book.specs.declared.error.BookError.TheVariants as book
+use Rattle.ic_parts.specs.Refused.{refusal_of}
+use Rattle.ic_parts.specs.declared.error.BookError.{BookError}
+use Rattle.ic_parts.specs.declared.error.BookError.TheVariants as book
 use Rattle.ic_import.specs.Placed.{first_outside, place_of}
 use Rattle.ic_import.specs.Records.{Field, first_no_text}
 use Rattle.ic_import.specs.declared.places.FieldNumber.{FieldNumber}

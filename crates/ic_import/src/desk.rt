@@ -4,7 +4,7 @@ ghost use Rattle.std.specs.Fmt.{decimal};
 ghost use Rattle.ic_laws.specs.Character.{line_feed};
 ghost use Rattle.ic_lines.specs.Bytes.{AppendsFront, HasFault, IfTold};
 ghost use Rattle.ic_machine.specs.Book.{Book};
-ghost use Rattle.ic_book.specs.Whole.{whole_of};
+ghost use Rattle.ic_parts.specs.Whole.{whole_of};
 ghost use Rattle.ic_run.specs.Core.{IsPlainBook};
 ghost use Rattle.ic_run.specs.Desk.{start_refusal, texts};
 ghost use Rattle.ic_run.specs.Make.{made_setting};

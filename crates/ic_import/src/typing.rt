@@ -2,7 +2,7 @@
 ghost use Rattle.std.specs.Prelude.{◌≡◌, ◌≤◌, ◌^◌, [], ◌∷◌, IfErr, IfOk, IsUtf8, Ok, OnOk, length, true};
 ghost use Rattle.csv.specs.Records.{fields_of};
 ghost use Rattle.ic_laws.specs.Position.{is_column, is_row};
-ghost use Rattle.ic_book.specs.Whole.{whole_of};
+ghost use Rattle.ic_parts.specs.Whole.{whole_of};
 ghost use Rattle.ic_import.specs.Placed.{is_in_sheet, place_at};
 ghost use Rattle.ic_import.specs.Records.{all_fields, fields_in, records_of};
 ghost use Rattle.ic_import.specs.Typed.{TellsBlocked, Typable, error_of, type_field, typed};

@@ -19,10 +19,10 @@ use Rattle.ic_machine.specs.TranslationLaws.{IsBeside}
 use Rattle.ic_machine.specs.Valid.{IsValidBook}
 use Rattle.ic_machine.proofs.MetadataFree.{hindered_same}
 use Rattle.ic_machine.proofs.TranslationSame.{translation_keeps_book}
-use Rattle.ic_book.specs.Book as held
-use Rattle.ic_book.specs.Book.{metadata_made}
-use Rattle.ic_book.specs.Translated.{notation_refusal}
-use Rattle.ic_book.specs.Whole.{whole_of}
+use Rattle.ic_parts.specs.Book as held
+use Rattle.ic_parts.specs.Book.{metadata_made}
+use Rattle.ic_parts.specs.Translated.{notation_refusal}
+use Rattle.ic_parts.specs.Whole.{whole_of}
 use Rattle.ic_run.specs.Desk.{start_book}
 use Rattle.ic_run.specs.Make.{made_setting}
 use Rattle.ic_run.specs.Translate.{AreAcceptedBeside, IsDue, Target, due_status, translation_status}

@@ -6,8 +6,8 @@ use Rattle.ic_tables.specs.Tables.{TableSet}
 use Rattle.ic_machine.specs.Run.{after, replies}
 use Rattle.ic_lines.specs.Bytes.{IfTold}
 use Rattle.ic_lines.specs.declared.error.RunError.{RunError}
-use Rattle.ic_book.specs.Book.{Book, ModelState, StepsTo, core_of, notations_in}
-use Rattle.ic_book.specs.Whole.{whole_of}
+use Rattle.ic_parts.specs.Book.{Book, ModelState, StepsTo, core_of, notations_in}
+use Rattle.ic_parts.specs.Whole.{whole_of}
 use Rattle.ic_commands.specs.Answered.{DoesLine}
 use Rattle.ic_run.specs.Answering.{AnswersAll, AnswersFirst, AnswersPartly, Appends, AreAnswered, LeavesAnswered}
 use Rattle.ic_run.specs.Core.{AreCore, IsPlainBook, identity_machine, whole_machine}

@@ -9,9 +9,9 @@ use Rattle.ic_machine.specs.Core.{whole_command}
 use Rattle.ic_machine.specs.Reply.{reply_bytes, reply_text}
 use Rattle.ic_machine.specs.Step.{command_step, english_errors, outcome_of, step}
 use Rattle.ic_machine.proofs.CoreLines.{core_lines_are}
-use Rattle.ic_book.specs.Book.{Book, IsSameBeside, IsValidBook, ModelState, StepsTo, core_of, notations_in}
-use Rattle.ic_book.specs.Whole.{whole_of}
-use Rattle.ic_book.proofs.WholeLemmas.{whole_core}
+use Rattle.ic_parts.specs.Book.{Book, IsSameBeside, IsValidBook, ModelState, StepsTo, core_of, notations_in}
+use Rattle.ic_parts.specs.Whole.{whole_of}
+use Rattle.ic_parts.proofs.WholeLemmas.{whole_core}
 use Rattle.ic_commands.specs.Answered.{AreValid, StaysAfter}
 use Rattle.ic_run.specs.Core.{CoreLinesAreDone, HasNoSign, IsPlainBook, WritesNoSign}
 use Rattle.ic_run.proofs.CoreLemmas.{StandsBeside, core_left, stands_beside, text_told}

@@ -14,9 +14,9 @@ use Rattle.ic_machine.specs.Valid.{HasCellFormulas, HasFormula}
 use Rattle.ic_machine.proofs.ValidLemmas.{all_at}
 use Rattle.ic_machine.proofs.FormulaStepped.{formula_told}
 use Rattle.ic_machine.proofs.SteppedLemmas.{stepped}
-use Rattle.ic_book.specs.Book.{Book, IsValidBook, core_of, notations_in, whole_of}
-use Rattle.ic_book.proofs.WholeLemmas.{whole_core}
-use Rattle.ic_book.proofs.WholeWritten.{in_force_there}
+use Rattle.ic_parts.specs.Book.{Book, IsValidBook, core_of, notations_in, whole_of}
+use Rattle.ic_parts.proofs.WholeLemmas.{whole_core}
+use Rattle.ic_parts.proofs.WholeWritten.{in_force_there}
 use Rattle.ic_run.specs.Core.{HasNoSign, IsPlain, IsPlainBook}
 use Rattle.ic_run.proofs.PlainLemmas.{none_fixed}
 

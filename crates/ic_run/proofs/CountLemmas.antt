@@ -25,10 +25,10 @@ use Rattle.ic_grid.specs.Contents.{Contents}
 use Rattle.ic_machine.specs.Reply.{Reply, reply_text}
 use Rattle.ic_sheets.specs.Sheet.{Sheet, cell_of, cells_of, formula_in, sheet_core}
 use Rattle.ic_words.proofs.ReplyLemmas.{are_ascii, tested_ascii}
-use Rattle.ic_book.proofs.WholeLemmas.{whole_core}
-use Rattle.ic_book.specs.Book.{Book}
-use Rattle.ic_book.specs.Whole.{whole_of}
-use Rattle.ic_book.specs.Workbook.{workbook_of, worksheet_of}
+use Rattle.ic_parts.proofs.WholeLemmas.{whole_core}
+use Rattle.ic_parts.specs.Book.{Book}
+use Rattle.ic_parts.specs.Whole.{whole_of}
+use Rattle.ic_workbooks.specs.Workbook.{workbook_of, worksheet_of}
 use Rattle.ic_run.specs.Counts.{formulas_in, formulas_of, has_formula, told_some}
 use Rattle.ic_run.specs.Make.{formula_count, is_refused_as, told_if_some, told_names, told_refusal, told_refusals}
 

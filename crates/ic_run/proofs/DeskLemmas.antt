@@ -7,7 +7,7 @@ use Rattle.ic_lines.specs.declared.error.RunError.{RunError}
 use Rattle.ic_lines.specs.declared.error.RunError.TheVariants as run
 use Rattle.ic_lines.proofs.ToldLemmas.{IfTold-weaker}
 use Rattle.ic_lines.specs.Bytes.{IfTold}
-use Rattle.ic_book.specs.Book.{Book, core_of, first_sheet_name_in, new_book, notations_in}
+use Rattle.ic_parts.specs.Book.{Book, core_of, first_sheet_name_in, new_book, notations_in}
 use Rattle.ic_run.specs.Desk.{Setting, setting_of, run_status, texts}
 use Rattle.ic_run.specs.Make.{made_setting}
 use Rattle.ic_run.specs.Core.{AreCore, IsPlainBook, identity_machine, whole_machine}
@@ -19,7 +19,7 @@ use Rattle.ic_cells.specs.declared.cell.Cell.{Cell}
 use Rattle.std.specs.FinMap as finite
 use Rattle.ic_machine.proofs.AlikeGrid.{entries-empty, get-seen}
 use Rattle.ic_machine.specs.Content.{content_of}
-use Rattle.ic_book.specs.Whole.{whole_of}
+use Rattle.ic_parts.specs.Whole.{whole_of}
 use Rattle.ic_sheets.specs.Sheet.{cells_of}
 use Rattle.ic_tables.specs.Tables.{TableSet}
 

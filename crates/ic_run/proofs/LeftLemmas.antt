@@ -9,8 +9,8 @@ use Rattle.ic_machine.specs.Book as machine
 use Rattle.ic_machine.specs.Run.{after, replies}
 use Rattle.ic_lines.specs.Bytes.{IfTold}
 use Rattle.ic_lines.proofs.ToldLemmas.{IfTold-weaker}
-use Rattle.ic_book.specs.Book.{Book, IsSameBeside, ModelState, StepsTo, core_of, new_book, notations_in}
-use Rattle.ic_book.specs.Whole.{whole_of}
+use Rattle.ic_parts.specs.Book.{Book, IsSameBeside, ModelState, StepsTo, core_of, new_book, notations_in}
+use Rattle.ic_parts.specs.Whole.{whole_of}
 use Rattle.ic_commands.specs.Answered.{DoesLine, LeavesLine}
 use Rattle.ic_run.specs.Core.{AreCore, IsPlainBook, identity_machine, whole_machine}
 use Rattle.ic_run.specs.Run.{AppendsReplies, AppendsWhole, LinesDo}

@@ -7,9 +7,9 @@ use Rattle.ic_machine.specs.Book.{Book}
 use Rattle.ic_machine.specs.Run.{after}
 use Rattle.ic_machine.specs.Translation.{left_after}
 use Rattle.ic_machine.proofs.MetadataFree.{left_same, with_metadata}
-use Rattle.ic_book.specs.Book as held
-use Rattle.ic_book.specs.Book.{metadata_made}
-use Rattle.ic_book.specs.Whole.{whole_of}
+use Rattle.ic_parts.specs.Book as held
+use Rattle.ic_parts.specs.Book.{metadata_made}
+use Rattle.ic_parts.specs.Whole.{whole_of}
 use Rattle.ic_run.specs.Core.{whole_machine}
 use Rattle.ic_run.specs.Make.{made_start}
 use Rattle.ic_run.specs.Prepared.{IsBookAfter, book_after}

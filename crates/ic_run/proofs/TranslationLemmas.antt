@@ -4,8 +4,8 @@ use Rattle.std.specs.Str.{chars}
 use Rattle.std.specs.declared.alloc.Global.{Global}
 use Rattle.ic_laws.specs.Lines.{escaped}
 use Rattle.ic_run.specs.Desk.{texts}
-use Rattle.ic_book.specs.Book.{Book}
-use Rattle.ic_book.specs.Whole.{whole_of}
+use Rattle.ic_parts.specs.Book.{Book}
+use Rattle.ic_parts.specs.Whole.{whole_of}
 use Rattle.ic_laws.specs.Lines.{texts_of}
 use Rattle.ic_lines.proofs.ToldLemmas.{IfTold-weaker}
 use Rattle.ic_lines.specs.Bytes.{IfTold}

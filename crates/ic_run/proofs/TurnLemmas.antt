@@ -9,10 +9,10 @@ use Rattle.ic_machine.specs.Readers.{LeavesIf, is_reader}
 use Rattle.ic_machine.specs.Run.{after}
 use Rattle.ic_machine.specs.Step.{command_step, english_errors, line_step, machine, outcome_of, step}
 use Rattle.ic_machine.specs.Translation.{AreTranslated, AreTranslatedTexts, IsTranslation, StandsBefore, Why, first_hindered, first_of, in_notation, is_dropped, is_switch, kept_command, kept_in, left_after, left_by, line_of, own_formula, texts_of, why_line_not, why_not}
-use Rattle.ic_book.specs.Book.{NotationState}
-use Rattle.ic_book.specs.Translated.{IsIn, IsToldOf, IsToldWhere, formula_owned, why_meant}
-use Rattle.ic_book.specs.declared.own_text.OwnText.{OwnText}
-use Rattle.ic_book.specs.declared.own_text.Why as code
+use Rattle.ic_parts.specs.Book.{NotationState}
+use Rattle.ic_parts.specs.Translated.{IsIn, IsToldOf, IsToldWhere, formula_owned, why_meant}
+use Rattle.ic_parts.specs.declared.own_text.OwnText.{OwnText}
+use Rattle.ic_parts.specs.declared.own_text.Why as code
 use Rattle.ic_run.specs.Make.{is_ok}
 use Rattle.ic_run.specs.Translate.{HasRunSome, HasTranslated, IsTurn, StaysSo}
 use Rattle.ic_run.specs.declared.translating.TranslateError.{TranslateError}

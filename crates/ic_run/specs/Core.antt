@@ -17,8 +17,8 @@ use Rattle.ic_machine.specs.Core.{begins_with_sign, is_core_line}
 use Rattle.ic_machine.specs.Run.{Machine}
 use Rattle.ic_machine.specs.Step.{core_machine, machine as machine_of}
 use Rattle.ic_machine.specs.subjects.Writing.{UpdateCellWithFormula}
-use Rattle.ic_book.specs.Book.{Book, ModelState, StepsTo, core_of, notations_in}
-use Rattle.ic_book.specs.Whole.{whole_of}
+use Rattle.ic_parts.specs.Book.{Book, ModelState, StepsTo, core_of, notations_in}
+use Rattle.ic_parts.specs.Whole.{whole_of}
 use Rattle.ic_commands.specs.Answered.{LeavesLine}
 
 -- the whole machine, by the table of all commands

@@ -6,9 +6,9 @@ use Rattle.ic_laws.specs.Refusal.{Refusal}
 use Rattle.ic_tables.specs.Tables.{TableSet}
 use Rattle.ic_lines.specs.declared.error.RunError.{RunError}
 use Rattle.ic_lines.specs.declared.error.RunError.TheVariants as run
-use Rattle.ic_book.specs.declared.error.BookError.{BookError}
-use Rattle.ic_book.specs.declared.error.BookError.TheVariants as book
-use Rattle.ic_book.specs.Book.{Book, first_sheet_name_in, new_book, new_book_refusal}
+use Rattle.ic_parts.specs.declared.error.BookError.{BookError}
+use Rattle.ic_parts.specs.declared.error.BookError.TheVariants as book
+use Rattle.ic_parts.specs.Book.{Book, first_sheet_name_in, new_book, new_book_refusal}
 
 -- the locale, the language and the zone that the program begins with
 pub record Setting : Type 0 where

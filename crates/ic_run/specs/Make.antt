@@ -13,7 +13,7 @@ use Rattle.ic_machine.specs.Reply.{Reply}
 use Rattle.ic_machine.specs.Command.{commands}
 use Rattle.ic_machine.specs.Run.{after}
 use Rattle.ic_machine.specs.Step.{line_step}
-use Rattle.ic_book.specs.Whole.{whole_of}
+use Rattle.ic_parts.specs.Whole.{whole_of}
 use Rattle.ic_run.specs.Core.{whole_machine}
 use Rattle.ic_run.specs.Desk.{Setting, start_book}
 use Rattle.ic_run.specs.declared.made.MadeCommand.{MadeCommand}

@@ -4,9 +4,9 @@ use Rattle.ic_laws.specs.Lines.{texts_of}
 use Rattle.ic_tables.specs.Tables.{TableSet}
 use Rattle.ic_machine.specs.Book.{Book}
 use Rattle.ic_machine.specs.Run.{after}
-use Rattle.ic_book.specs.Book as model
+use Rattle.ic_parts.specs.Book as model
 use Rattle.ic_run.specs.Core.{whole_machine}
-use Rattle.ic_book.specs.Whole.{whole_of}
+use Rattle.ic_parts.specs.Whole.{whole_of}
 use Rattle.ic_run.specs.Make.{made_start}
 
 -- the whole book after the lines of these bytes, from the new one that was made at this moment

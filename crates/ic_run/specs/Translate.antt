@@ -17,9 +17,9 @@ use Rattle.ic_machine.specs.Translation as translation
 use Rattle.ic_machine.specs.Translation.{AreTranslatedTexts, IsKeptLine, IsTranslation, first_hindered, is_dropped, is_switch, kept_in, left_after, left_by, own_formula, why_line_not}
 use Rattle.ic_machine.specs.TranslationLaws.{AreAccepted, BodiesEndPlain}
 use Rattle.ic_machine.specs.subjects.Sheets.{NewSheet, new_sheet_name}
-use Rattle.ic_book.specs.Book.{NotationState}
-use Rattle.ic_book.specs.Translated.{IsToldWhere, notation_refusal, why_meant}
-use Rattle.ic_book.specs.Whole.{whole_of}
+use Rattle.ic_parts.specs.Book.{NotationState}
+use Rattle.ic_parts.specs.Translated.{IsToldWhere, notation_refusal, why_meant}
+use Rattle.ic_parts.specs.Whole.{whole_of}
 use Rattle.ic_run.specs.Desk.{Setting, setting_of, start_book, start_refusal}
 use Rattle.ic_run.specs.Make.{made_setting, making_of}
 use Rattle.ic_run.specs.declared.plan.Plan.{Plan}

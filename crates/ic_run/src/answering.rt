@@ -1,7 +1,7 @@
 //! The loop: lines of a source are read, answered and replied to.
 ghost use Rattle.std.specs.Prelude.{◌≡◌, ◌⊎◌, ◌+◌, ◌<◌, ◌≤◌, ◌^◌, List, ℕ, true, Err, length, IfOk, IfErr, IsSomeAnd, OnErr, OnOk, string_bytes};
 ghost use Rattle.ic_lines.specs.Bytes.{AppendsFront, HasFault, IfTold};
-ghost use Rattle.ic_book.specs.Book.{ModelState};
+ghost use Rattle.ic_parts.specs.Book.{ModelState};
 ghost use Rattle.ic_run.specs.Answering.{AnswersAll, AnswersSome, Appends, LeavesAnswered};
 ghost use Rattle.ic_run.specs.Run.{HasCause};
 

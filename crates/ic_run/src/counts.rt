@@ -4,7 +4,7 @@ ghost use Rattle.std.specs.BTreeMap.{IsOrdered, values};
 ghost use Rattle.std.specs.List.{count_by};
 ghost use Rattle.ic_cells.specs.Maps.{place_cmp};
 ghost use Rattle.ic_machine.specs.Reply.{Reply, reply_text};
-ghost use Rattle.ic_book.specs.Whole.{whole_of};
+ghost use Rattle.ic_parts.specs.Whole.{whole_of};
 ghost use Rattle.ic_run.specs.Counts.{begins_with_o, count_same, formulas_in, formulas_of, has_formula, told_some};
 ghost use Rattle.ic_run.specs.Make.{formula_count, summary, told_line, told_refusals};
 

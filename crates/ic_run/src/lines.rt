@@ -1,8 +1,8 @@
 ghost use Rattle.std.specs.Prelude.{◌≡◌, ◌+◌, ◌<◌, ◌≤◌, ◌^◌, true, Err, length, IfOk, IfErr, IsSomeAnd, OnOk};
 ghost use Rattle.ic_laws.specs.Lines.{texts_of};
 ghost use Rattle.ic_lines.specs.Bytes.{HasFault, IfTold};
-ghost use Rattle.ic_book.specs.Book.{core_of, notations_in};
-ghost use Rattle.ic_book.specs.Whole.{whole_of};
+ghost use Rattle.ic_parts.specs.Book.{core_of, notations_in};
+ghost use Rattle.ic_parts.specs.Whole.{whole_of};
 ghost use Rattle.ic_run.specs.Core.{AreCore, CoreLinesAreDone, IsPlainBook, identity_machine, whole_machine};
 ghost use Rattle.ic_run.specs.Run.{AppendsReplies, HasCause, IsAfterAll, LeavesRun, LinesDo, TakesAll};
 

@@ -3,7 +3,7 @@ ghost use Rattle.std.specs.Prelude.{◌≡◌, ◌≢◌, ◌⊎◌, ◌↔◌, 
 ghost use Rattle.ic_lines.specs.Bytes.{AppendsFront, HasFault, IfTold};
 ghost use Rattle.ic_machine.specs.Reply.{reply_text};
 ghost use Rattle.ic_machine.specs.Run.{after};
-ghost use Rattle.ic_book.specs.Whole.{whole_of};
+ghost use Rattle.ic_parts.specs.Whole.{whole_of};
 ghost use Rattle.ic_run.specs.Core.{whole_machine};
 ghost use Rattle.ic_run.specs.Desk.{start_refusal, texts};
 ghost use Rattle.ic_run.specs.Make.{AppendsSummary, AppendsSummaryFront, made_lines, made_setting, making_of, seed_said, summary_of, told_replies};

@@ -13,9 +13,9 @@ ghost use Rattle.ic_words.specs.subjects.Sheets.{sheets_meant};
 ghost use Rattle.ic_words.specs.subjects.Styles.{styles_meant};
 ghost use Rattle.ic_words.specs.subjects.Tabs.{tabs_meant};
 ghost use Rattle.ic_words.specs.subjects.Writing.{writing_meant};
-ghost use Rattle.ic_book.specs.Book.{NotationState};
-ghost use Rattle.ic_book.specs.Translated.{IsToldWhere};
-ghost use Rattle.ic_book.specs.Whole.{whole_of};
+ghost use Rattle.ic_parts.specs.Book.{NotationState};
+ghost use Rattle.ic_parts.specs.Translated.{IsToldWhere};
+ghost use Rattle.ic_parts.specs.Whole.{whole_of};
 ghost use Rattle.ic_run.specs.Translate.{IsPlan};
 
 use ic_book::{Model, Notation as Target, OwnText};

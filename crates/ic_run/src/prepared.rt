@@ -5,7 +5,7 @@ ghost use Rattle.ic_laws.specs.Lines.{texts_of};
 ghost use Rattle.ic_lines.specs.Bytes.{HasFault, IfTold};
 ghost use Rattle.ic_machine.specs.Run.{after};
 ghost use Rattle.ic_run.specs.Core.{whole_machine};
-ghost use Rattle.ic_book.specs.Whole.{whole_of};
+ghost use Rattle.ic_parts.specs.Whole.{whole_of};
 ghost use Rattle.ic_run.specs.Desk.{start_refusal};
 ghost use Rattle.ic_run.specs.Make.{made_setting};
 ghost use Rattle.ic_run.specs.Prepared.{IsBookAfter, IsLeftBySome, SomeLead};

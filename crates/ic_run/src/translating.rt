@@ -5,9 +5,9 @@ ghost use Rattle.ic_machine.specs.Command.{Command, OnSheets, command_in, comman
 ghost use Rattle.ic_machine.specs.Step.{english_errors, line_step};
 ghost use Rattle.ic_machine.specs.Translation.{is_dropped, is_switch, left_after};
 ghost use Rattle.ic_machine.specs.subjects.Sheets.{NewSheet, new_sheet_name};
-ghost use Rattle.ic_book.specs.Book.{IsValidBook};
-ghost use Rattle.ic_book.specs.Translated.{IsToldWhere, notation_refusal};
-ghost use Rattle.ic_book.specs.Whole.{whole_of};
+ghost use Rattle.ic_parts.specs.Book.{IsValidBook};
+ghost use Rattle.ic_parts.specs.Translated.{IsToldWhere, notation_refusal};
+ghost use Rattle.ic_parts.specs.Whole.{whole_of};
 ghost use Rattle.ic_run.specs.Make.{is_ok};
 ghost use Rattle.ic_run.specs.Translate.{AreAcceptedBeside, HasTranslated, IsPlan, IsTurn, StaysSo, unknown_told};
 

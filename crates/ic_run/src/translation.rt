@@ -2,8 +2,8 @@
 ghost use Rattle.std.specs.Prelude.{◌≡◌, ◌≢◌, ◌⊎◌, ◌↔◌, ◌+◌, ◌++◌, [], ◌<◌, ◌≤◌, ◌^◌, true, Err, Ok, IfOk, IsNone, IsSome, IsSomeAnd, OnOk, chars, flat_map, is_some, length, option_map, string_bytes};
 ghost use Rattle.ic_laws.specs.Lines.{escaped, texts_of};
 ghost use Rattle.ic_lines.specs.Bytes.{AppendsFront, HasFault, IfTold};
-ghost use Rattle.ic_book.specs.Translated.{why_meant};
-ghost use Rattle.ic_book.specs.Whole.{whole_of};
+ghost use Rattle.ic_parts.specs.Translated.{why_meant};
+ghost use Rattle.ic_parts.specs.Whole.{whole_of};
 ghost use Rattle.ic_run.specs.Desk.{run_status, start_refusal, texts};
 ghost use Rattle.ic_run.specs.Make.{made_setting};
 ghost use Rattle.ic_run.specs.Start.{target};

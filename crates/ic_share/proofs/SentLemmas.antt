@@ -5,8 +5,8 @@ use Rattle.std.specs.declared.alloc.Global.{Global}
 use Rattle.ic_tables.specs.Tables.{TableSet}
 use Rattle.ic_tree.specs.Notations.{notations_of}
 use Rattle.ic_machine.specs.Book.{Book, notations_in}
-use Rattle.ic_book.specs.Book.{Book as Held, ModelState}
-use Rattle.ic_book.specs.Whole.{whole_of}
+use Rattle.ic_parts.specs.Book.{Book as Held, ModelState}
+use Rattle.ic_parts.specs.Whole.{whole_of}
 use Rattle.ic_commands.specs.Answered.{DoesLine}
 use Rattle.ic_run.proofs.TablesStay.{tables_stay}
 use Rattle.ic_share.specs.Share.{IsKnown, UsersState, shared_by}

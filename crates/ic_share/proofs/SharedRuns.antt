@@ -7,8 +7,8 @@ use Rattle.ic_lines.specs.declared.error.RunError.{RunError}
 use Rattle.ic_lines.proofs.ToldLemmas.{IfTold-weaker}
 use Rattle.ic_machine.specs.Book as machine
 use Rattle.ic_machine.specs.Run.{after}
-use Rattle.ic_book.specs.Book.{Book, ModelState}
-use Rattle.ic_book.specs.Whole.{whole_of}
+use Rattle.ic_parts.specs.Book.{Book, ModelState}
+use Rattle.ic_parts.specs.Whole.{whole_of}
 use Rattle.ic_run.specs.Answering.{AnswersAll, AnswersFirst, AnswersPartly, AnswersSome, AreAnswered, LeavesAnswered}
 use Rattle.ic_run.specs.Run.{AppendsReplies, HasAnswered, HasPartlyAnswered, HasPartlyReplied, HasReplied, LeavesReplies}
 use Rattle.ic_run.proofs.RefinedRuns.{all_appended, has_answered, has_partly_answered, left_after}

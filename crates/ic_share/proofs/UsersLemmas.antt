@@ -15,12 +15,12 @@ use Rattle.ic_laws.specs.Lines.{unescaped}
 use Rattle.std.specs.FinMap as finite
 use Rattle.std.specs.Cmp.Lexicographic.{slice_cmp}
 use Rattle.std.specs.Ordering.{nat_cmp}
-use Rattle.ic_book.specs.Book.{Book as Held, IsValidBook, ModelState}
-use Rattle.ic_book.specs.Does.{Made, Never, Refused}
-use Rattle.ic_book.specs.Fields.{no_fields}
-use Rattle.ic_book.specs.Refused.{refusal_of}
-use Rattle.ic_book.specs.Whole.{whole_of}
-use Rattle.ic_book.specs.declared.error.BookError.{BookError}
+use Rattle.ic_parts.specs.Book.{Book as Held, IsValidBook, ModelState}
+use Rattle.ic_parts.specs.Does.{Made, Never, Refused}
+use Rattle.ic_parts.specs.Fields.{no_fields}
+use Rattle.ic_parts.specs.Refused.{refusal_of}
+use Rattle.ic_parts.specs.Whole.{whole_of}
+use Rattle.ic_parts.specs.declared.error.BookError.{BookError}
 use Rattle.ic_machine.specs.Book.{Book, Stepped, notations_in}
 use Rattle.ic_machine.specs.Refusal.{Refusal}
 use Rattle.ic_run.proofs.DeskLemmas.{empty_list}

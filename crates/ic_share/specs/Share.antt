@@ -7,8 +7,8 @@ use Rattle.ic_laws.specs.Lines.{texts_of}
 use Rattle.ic_lines.specs.declared.error.RunError.{RunError}
 use Rattle.ic_machine.specs.Book.{notations_in}
 use Rattle.ic_machine.specs.Run.{after}
-use Rattle.ic_book.specs.Book.{Book}
-use Rattle.ic_book.specs.Whole.{whole_of}
+use Rattle.ic_parts.specs.Book.{Book}
+use Rattle.ic_parts.specs.Whole.{whole_of}
 use Rattle.ic_run.specs.Run.{AppendsReplies, HasAnswered, HasPartlyAnswered, Leaves, LeavesReplies}
 use Rattle.ic_share.specs.Shared.{Languages, SharedBook, share_machine, shared_from}
 

@@ -67,7 +67,7 @@ pub fn share<S: Source, K: Sink>(
 
 impl Answers for Users {
     ghost use Rattle.std.specs.Prelude.{◌≡◌};
-    ghost use Rattle.ic_book.specs.Whole.{whole_of};
+    ghost use Rattle.ic_parts.specs.Whole.{whole_of};
     ghost use Rattle.ic_share.specs.Share.{DoesShared, IsKnown, shared_by};
 
     ghost is_ready = { λ users model. (users.own ≡ model.book.language)

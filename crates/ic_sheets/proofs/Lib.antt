@@ -6,6 +6,7 @@ pub mod InsertLemmas
 pub mod KeptLemmas
 pub mod KeyLemmas
 pub mod MakesLemmas
+pub mod NumberLemmas
 pub mod OwnLemmas
 pub mod PlaceLemmas
 pub mod PoolLemmas

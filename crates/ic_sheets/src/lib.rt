@@ -8,5 +8,5 @@ mod tab;
 
 pub use records::{has_apart_names, sheets_of};
 pub use sheet::{FormulaKind, Sheet};
-pub use sheets::Sheets;
+pub use sheets::{Sheets, is_marked};
 pub use tab::Tab;

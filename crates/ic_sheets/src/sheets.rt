@@ -11,12 +11,14 @@ mod dangling;
 mod edits;
 mod formulas;
 mod grids;
+mod numbers;
 mod rewriting;
 mod tabs;
 
 use crate::Sheet;
 use caseless::default_case_fold_str;
 use ic_laws::{OutOfMemory, agree};
+pub use numbers::is_marked;
 use std::alloc::Global;
 use std::collections::BTreeMap;
 use std::marker::Model;

@@ -4,13 +4,13 @@ use Rattle.ic_cells.specs.declared.value.FormulaValue.{FormulaValue}
 use Rattle.ic_grid.specs.Block.{Place}
 use Rattle.ic_machine.specs.Refusal.{Refusal}
 use Rattle.ic_machine.specs.subjects.Arrays.{PutFormulaValue, arrays_step}
-use Rattle.ic_book.proofs.WholeLemmas.{whole_core}
-use Rattle.ic_book.specs.Book.{Book, ModelState, core_of}
-use Rattle.ic_book.specs.Does.{Does, Refused, Wanted}
-use Rattle.ic_book.specs.Fields.{no_fields}
-use Rattle.ic_book.specs.Refused.{refusal_of}
-use Rattle.ic_book.specs.Whole.{whole_of}
-use Rattle.ic_book.specs.declared.error.BookError.{BookError}
+use Rattle.ic_parts.proofs.WholeLemmas.{whole_core}
+use Rattle.ic_parts.specs.Book.{Book, ModelState, core_of}
+use Rattle.ic_parts.specs.Does.{Does, Refused, Wanted}
+use Rattle.ic_parts.specs.Fields.{no_fields}
+use Rattle.ic_parts.specs.Refused.{refusal_of}
+use Rattle.ic_parts.specs.Whole.{whole_of}
+use Rattle.ic_parts.specs.declared.error.BookError.{BookError}
 use Rattle.ic_sums.specs.Evaluated.{OnlyValues}
 use Rattle.ic_sums.proofs.EvaluatedLemmas.{only_core, only_itself, put_only}
 

@@ -1,7 +1,7 @@
 //! What the program does with its words.
 ghost use Rattle.std.specs.Prelude.{◌≡◌, ◌⊎◌, ◌↔◌, ◌+◌, ◌++◌, ◌<◌, ◌≤◌, ◌^◌, [], true, chars, length, string_bytes, IfOk, IsNone, IsSome, IsSomeAnd, OnOk};
 ghost use Rattle.ic_lines.specs.Bytes.{HasFault, IfTold};
-ghost use Rattle.ic_book.specs.Whole.{whole_of};
+ghost use Rattle.ic_parts.specs.Whole.{whole_of};
 ghost use Rattle.ic_run.specs.Desk.{start_refusal};
 ghost use Rattle.ic_run.specs.Make.{made_setting};
 ghost use Rattle.ic_sums.specs.Told.{AppendsValues, AppendsValuesFront, TellsBook, WritesValues, WritesValuesFront, told_cell};

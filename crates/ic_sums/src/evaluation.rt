@@ -1,8 +1,8 @@
 //! The values of all formulas of a book.
 ghost use Rattle.std.specs.Prelude.{◌≡◌, IfErr};
-ghost use Rattle.ic_book.specs.Book.{core_of};
-ghost use Rattle.ic_book.specs.Whole.{whole_of};
-ghost use Rattle.ic_book.specs.declared.error.BookError.TheVariants as errors;
+ghost use Rattle.ic_parts.specs.Book.{core_of};
+ghost use Rattle.ic_parts.specs.Whole.{whole_of};
+ghost use Rattle.ic_parts.specs.declared.error.BookError.TheVariants as errors;
 ghost use Rattle.ic_sums.specs.Evaluated.{OnlyValues};
 
 use crate::tree::{Evaluator, Mark, Place};

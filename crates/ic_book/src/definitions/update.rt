@@ -1,57 +1,25 @@
 //! A definition gets another name, another scope and another body.
-ghost use Rattle.std.specs.Prelude.{◌≡◌, ◌&&◌, IfOk, OnErr, OnOk, chars, not, option_map};
-ghost use Rattle.std.specs.List.{list_any};
-ghost use Rattle.ic_laws.specs.CoreStep.{is_named};
-ghost use Rattle.ic_laws.specs.Name.{agrees};
-ghost use Rattle.ic_laws.specs.Scene.{same_scope};
+ghost use Rattle.std.specs.Prelude.{◌≡◌, IfOk, OnErr, OnOk, chars, option_map};
 ghost use Rattle.ic_machine.specs.Refusal.{first_refusal};
 ghost use Rattle.ic_machine.specs.Binds.{UpdatesWords};
 ghost use Rattle.ic_machine.specs.Reply.{bool_field};
 ghost use Rattle.ic_machine.specs.subjects.Definitions.{UpdateDefinedName, WouldCaptureName, captures, definition_step, question_causes, update_body, update_causes, update_of, updated_book};
-ghost use Rattle.ic_book.specs.Book.{IsValidBook, core_of, notations_in};
-ghost use Rattle.ic_book.specs.Definitions.{body_of_typed};
-ghost use Rattle.ic_book.specs.Does.{DoesWhere};
-ghost use Rattle.ic_book.specs.Fields.{no_fields};
-ghost use Rattle.ic_book.specs.LookUps.{LooksUpUpdated};
-ghost use Rattle.ic_book.specs.Refused.{TellsWhere};
-ghost use Rattle.ic_book.specs.Updated.{IsChecked, is_late_question, is_late_update};
-ghost use Rattle.ic_book.specs.Whole.{whole_of};
+ghost use Rattle.ic_parts.specs.Book.{IsValidBook, core_of, notations_in};
+ghost use Rattle.ic_parts.specs.Definitions.{body_of_typed};
+ghost use Rattle.ic_parts.specs.Does.{DoesWhere};
+ghost use Rattle.ic_parts.specs.Fields.{no_fields};
+ghost use Rattle.ic_changes.specs.LookUps.{LooksUpUpdated};
+ghost use Rattle.ic_parts.specs.Refused.{TellsWhere};
+ghost use Rattle.ic_changes.specs.Updated.{IsChecked, is_late_question, is_late_update};
+ghost use Rattle.ic_parts.specs.Whole.{whole_of};
 
-use super::body::{TypedBody, past_equals};
-use super::remaking::{keys_of_update, prepare_update, updated_definition};
 use crate::{BookError, Model};
+use ic_changes::definitions::remaking::{keys_of_update, prepare_update, updated_definition};
+use ic_changes::definitions::update::{CheckedUpdate, FIRST_CELL, meets_other};
 use ic_definitions::NamedDefinitions;
-use ic_laws::{OutOfMemory, agree};
-use ic_pool::same_scope;
-use ic_refs::{CellReferenceIndex, is_valid_identifier, trimmed};
-
-/// The first cell of a sheet: bodies of definitions count from there.
-const FIRST_CELL: CellReferenceIndex = CellReferenceIndex {
-    sheet: 0,
-    row: 1,
-    column: 1,
-};
-
-/// An update of a definition that nothing refuses before memory is asked for what it captures: the ids of the sheets that
-/// the definition is local to before and after it, if there are such, its index, from 0, and the body that it gets.
-pub struct CheckedUpdate {
-    pub old_scope: Option<u32>,
-    pub new_scope: Option<u32>,
-    pub index: usize,
-    pub body: TypedBody,
-}
-
-impl Drop for CheckedUpdate {
-    fn drop(self) {
-        let Self {
-            old_scope: _,
-            new_scope: _,
-            index: _,
-            body,
-        } = self;
-        drop(body);
-    }
-}
+use ic_laws::OutOfMemory;
+use ic_parts::definitions::body::{TypedBody, past_equals};
+use ic_refs::{is_valid_identifier, trimmed};
 
 impl<'a> Model<'a> {
     /// Gives the definition of an agreeing name that is local to the sheet at an index, from 0, or to none, another name,
@@ -254,33 +222,4 @@ impl<'a> Model<'a> {
             None => Ok(None),
         }
     }
-}
-
-/// Whether another definition than the one of this name and this scope has the new name and the new scope.
-fn meets_other(
-    definitions: &NamedDefinitions,
-    name: &str,
-    scope: Option<u32>,
-    new_name: &str,
-    new_scope: Option<u32>,
-) -> bool
-    ensures { result ≡ (list_any (is_named (chars new_name.now) new_scope)
-        definitions.now.definitions.now
-        && not (agrees (chars name.now) (chars new_name.now) && same_scope scope new_scope)) }
-{
-    is_defined(definitions, new_name, new_scope) && !is_same_name(name, scope, new_name, new_scope)
-}
-
-/// Whether a definition has an agreeing name and this scope.
-fn is_defined(definitions: &NamedDefinitions, name: &str, scope: Option<u32>) -> bool
-    ensures { result ≡ list_any (is_named (chars name.now) scope) definitions.now.definitions.now }
-{
-    definitions.index_of(name, scope).is_some()
-}
-
-/// Whether two names agree and have one scope.
-fn is_same_name(name: &str, scope: Option<u32>, other: &str, other_scope: Option<u32>) -> bool
-    ensures { result ≡ (agrees (chars name.now) (chars other.now) && same_scope scope other_scope) }
-{
-    agree(name, other) && same_scope(scope, other_scope)
 }

@@ -1,5 +1,5 @@
 use Rattle.std.proofs.Common.{List, Option, IsSome, subst, sym, ◌∙◌}
-use Rattle.ic_book.specs.Whole.{whole_of}
+use Rattle.ic_parts.specs.Whole.{whole_of}
 use Rattle.ic_lines.proofs.ToldLemmas.{IfTold-weaker}
 use Rattle.ic_lines.specs.Bytes.{IfTold}
 use Rattle.ic_machine.specs.Refusal.{Site}

@@ -1,7 +1,7 @@
 use Rattle.std.proofs.Common.{◌≡◌, ◌≢◌, None, Some, chars, map, subst, sym}
 use Rattle.std.specs.Prelude.{IfErr, IfOk}
-use Rattle.ic_book.specs.Sites.{site_of}
-use Rattle.ic_book.specs.Whole.{whole_of}
+use Rattle.ic_parts.specs.Sites.{site_of}
+use Rattle.ic_parts.specs.Whole.{whole_of}
 use Rattle.ic_audit.specs.Asked.{question, sites_asked}
 use Rattle.ic_audit.specs.declared.asked.Asked.{Asked}
 use Rattle.ic_audit.specs.declared.error.AuditError.TheVariants as errors

@@ -1,6 +1,6 @@
 use Rattle.std.proofs.Common.{◌≡◌, ◌++◌, List, Option, map, subst, sym}
-use Rattle.ic_book.specs.Sites.{site_of}
-use Rattle.ic_book.specs.declared.sites.MentionSite.{MentionSite}
+use Rattle.ic_parts.specs.Sites.{site_of}
+use Rattle.ic_parts.specs.declared.sites.MentionSite.{MentionSite}
 use Rattle.ic_lines.specs.Bytes.{AppendsFront, IfTold}
 use Rattle.ic_machine.specs.Refusal.{Site}
 use Rattle.ic_audit.specs.Listed.{TellsSites, TellsSitesFront, told_sites}

@@ -1,5 +1,5 @@
 use Rattle.std.proofs.Common.{◌≡◌, chars, flat_map, map, string_bytes, take}
-use Rattle.ic_book.specs.Sites.{site_of}
+use Rattle.ic_parts.specs.Sites.{site_of}
 use Rattle.ic_audit.specs.Listed.{site_line}
 use Rattle.ic_audit.proofs.told.told.Given as goal
 

@@ -2,16 +2,16 @@ use Rattle.std.proofs.Common.{ℕ, List, IfErr, ap, map, refl, sym, subst, ◌�
 use Rattle.ic_tables.specs.Tables.{TableSet}
 use Rattle.ic_cells.specs.declared.workbook.Workbook.{Workbook}
 use Rattle.ic_sheets.specs.declared.sheet.Sheet.{Sheet as HeldSheet}
-use Rattle.ic_book.specs.Asked.{Breaks, HasCount, TellsFirst}
-use Rattle.ic_book.specs.Book.{NotationState}
-use Rattle.ic_book.specs.HandedIn.{MeetsAll, SheetCount, scene_of}
-use Rattle.ic_book.specs.Numbered.{AreNumbered}
+use Rattle.ic_workbooks.specs.Asked.{Breaks, HasCount, TellsFirst}
+use Rattle.ic_parts.specs.Book.{NotationState}
+use Rattle.ic_workbooks.specs.HandedIn.{MeetsAll, SheetCount, scene_of}
+use Rattle.ic_workbooks.specs.Numbered.{AreNumbered}
 use Rattle.ic_book.specs.declared.model.Model.TheInside.{Inside}
-use Rattle.ic_book.proofs.CellReads.{of_error}
-use Rattle.ic_book.proofs.FilledLemmas.{none_looks_up}
-use Rattle.ic_book.proofs.FirstLemmas.{breaks_first, met_all, met_none}
+use Rattle.ic_parts.proofs.CellReads.{of_error}
+use Rattle.ic_workbooks.proofs.FilledLemmas.{none_looks_up}
+use Rattle.ic_workbooks.proofs.FirstLemmas.{breaks_first, met_all, met_none}
 use Rattle.ic_book.proofs.HandedInValid.{HoldsRecords, records_held, stands_for}
-use Rattle.ic_book.proofs.MeetsLemmas.{count_asked}
+use Rattle.ic_workbooks.proofs.MeetsLemmas.{count_asked}
 use Rattle.ic_book.proofs.handed_in.from_records.Goals as goal
 
 pub returns-in_err-alloc-clause-err : goal.returns-in_err-alloc-clause-err

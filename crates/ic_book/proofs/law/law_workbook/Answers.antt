@@ -1,5 +1,5 @@
-use Rattle.ic_book.proofs.HandedInLemmas.{meets_all, read_back}
-use Rattle.ic_book.proofs.TakenAgain.{taken_again}
+use Rattle.ic_workbooks.proofs.HandedInLemmas.{meets_all, read_back}
+use Rattle.ic_workbooks.proofs.TakenAgain.{taken_again}
 use Rattle.ic_book.proofs.law.law_workbook.Goals as goal
 
 pub returns : goal.returns

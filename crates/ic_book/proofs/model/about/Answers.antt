@@ -1,8 +1,8 @@
 use Rattle.std.proofs.Common.{◌≡◌, ◌∙◌, ℕ, List, Bor, ap, sym}
 use Rattle.std.specs.Str.{chars}
 use Rattle.ic_cells.specs.declared.workbook.Metadata.{Metadata}
-use Rattle.ic_book.specs.Book.{metadata_made}
-use Rattle.ic_book.specs.declared.about.About.{About}
+use Rattle.ic_parts.specs.Book.{metadata_made}
+use Rattle.ic_parts.specs.declared.about.About.{About}
 use Rattle.ic_book.proofs.model.about.Goals as goal
 
 -- the same parts make the same

@@ -2,7 +2,7 @@ use Rattle.std.proofs.Common.{◌≡◌, ◌∙◌, encode_utf8_all, length, str
 use Rattle.ic_machine.specs.Command.{commands}
 use Rattle.ic_machine.specs.Reply.{reply_text}
 use Rattle.ic_machine.specs.Step.{line_step}
-use Rattle.ic_book.specs.Whole.{whole_of}
+use Rattle.ic_parts.specs.Whole.{whole_of}
 use Rattle.ic_commands.proofs.ReplyLemmas.{cut_is_line, cut_reply, last_byte, some_byte}
 use Rattle.ic_commands.proofs.answer.answer_line.Goals as goal
 

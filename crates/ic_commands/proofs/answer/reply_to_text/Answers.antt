@@ -5,7 +5,7 @@ use Rattle.ic_machine.specs.Refusal.{BadLine}
 use Rattle.ic_machine.specs.Reply.{reply_bytes}
 use Rattle.ic_machine.specs.Step.{english_errors}
 use Rattle.ic_words.specs.Command.{command_meant}
-use Rattle.ic_book.specs.Whole.{whole_of}
+use Rattle.ic_parts.specs.Whole.{whole_of}
 use Rattle.ic_commands.specs.Answered.{IsAnswered}
 use Rattle.ic_commands.proofs.LineLemmas.{bad_done, line_done}
 use Rattle.ic_commands.proofs.answer.reply_to_text.Goals as goal

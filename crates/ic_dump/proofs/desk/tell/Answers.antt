@@ -1,9 +1,9 @@
 use Rattle.std.proofs.Common.{◌≡◌, ◌∙◌, ◌++◌, ℕ, List, Some, ap, subst}
 use Rattle.ic_lines.proofs.ToldLemmas.{IfTold-weaker}
 use Rattle.ic_lines.specs.Bytes.{AppendsFront}
-use Rattle.ic_book.specs.Book.{core_of, notations_in}
-use Rattle.ic_book.specs.Sites.{site_of}
-use Rattle.ic_book.specs.Whole.{whole_of}
+use Rattle.ic_parts.specs.Book.{core_of, notations_in}
+use Rattle.ic_parts.specs.Sites.{site_of}
+use Rattle.ic_parts.specs.Whole.{whole_of}
 use Rattle.ic_dump.specs.Refused.{RawBody, Rereads, cause_of}
 use Rattle.ic_dump.specs.Told.{TellsCannot, TellsDump, told_cannot, told_lines, told_of}
 use Rattle.ic_dump.proofs.NeverRaw.{never_caused}

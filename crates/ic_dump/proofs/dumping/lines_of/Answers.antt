@@ -2,7 +2,7 @@ use Rattle.std.proofs.Common.{◌≡◌, ◌+◌, ◌-◌, ◌++◌, ◌∙◌, 
 use Rattle.std.proofs.lemmas.List.{length-map}
 use Rattle.ic_laws.specs.CoreBook.{Sheet}
 use Rattle.ic_sheets.specs.Sheet.{sheet_core}
-use Rattle.ic_book.specs.Book.{core_of, notations_in}
+use Rattle.ic_parts.specs.Book.{core_of, notations_in}
 use Rattle.ic_dump.specs.Lines.{body_line, body_lines, cell_lines, cell_lines_from, defining_line, defining_lines, deleting_lines, inserting_lines, inserting_lines_from, is_first, naming_line, naming_lines}
 use Rattle.ic_dump.specs.Passing.{passing_ids, standing_sheets}
 use Rattle.ic_dump.specs.Records.{core_seen, name_seen}

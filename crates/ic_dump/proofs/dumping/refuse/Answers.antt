@@ -1,5 +1,5 @@
 use Rattle.std.proofs.Common.{◌∙◌, sym}
-use Rattle.ic_book.specs.Book.{core_of, notations_in}
+use Rattle.ic_parts.specs.Book.{core_of, notations_in}
 use Rattle.ic_dump.proofs.DumpLemmas.{raw_cause}
 use Rattle.ic_dump.proofs.dumping.refuse.Goals as goal
 

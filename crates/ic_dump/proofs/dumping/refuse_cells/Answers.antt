@@ -1,8 +1,8 @@
 use Rattle.std.proofs.Common.{◌∙◌, List, None, Some, ap, option_map, sym}
 use Rattle.std.specs.Prelude.{flat_map}
 use Rattle.ic_laws.specs.CoreBook.{Sheet}
-use Rattle.ic_book.specs.Book.{core_of, notations_in}
-use Rattle.ic_book.specs.Sites.{site_of}
+use Rattle.ic_parts.specs.Book.{core_of, notations_in}
+use Rattle.ic_parts.specs.Sites.{site_of}
 use Rattle.std.specs.List.{slice_get}
 use Rattle.ic_dump.proofs.DumpLemmas.{cell_cause}
 use Rattle.ic_dump.proofs.RefusedLemmas.{rereading_of}

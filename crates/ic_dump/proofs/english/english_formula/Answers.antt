@@ -3,8 +3,8 @@ use Rattle.std.proofs.lemmas.Result.{IfOk-weaker}
 use Rattle.ic_laws.specs.Character.{equals}
 use Rattle.ic_laws.specs.CoreBook.{CellPlace}
 use Rattle.ic_sheets.proofs.CellLemmas.{stored_pair}
-use Rattle.ic_book.specs.Book.{NotationState, whole_of}
-use Rattle.ic_book.specs.Translated.{shown_in}
+use Rattle.ic_parts.specs.Book.{NotationState, whole_of}
+use Rattle.ic_parts.specs.Translated.{shown_in}
 use Rattle.ic_dump.proofs.EnglishLemmas.{written_english}
 use Rattle.ic_dump.proofs.english.english_formula.Goals as goal
 

@@ -1,7 +1,7 @@
 use Rattle.std.proofs.Common.{◌≡◌, ◌≤◌, ◌<◌, ◌++◌, [], ◌∙◌, Some, ap, append-nil, drop, length, map, option_map, refl, rules, arith, slice_get, sym}
 use Rattle.std.proofs.lemmas.List.{drop_all, length-map}
 use Rattle.std.proofs.lemmas.Option.{slice_get-map, slice_get_read}
-use Rattle.ic_book.specs.Book.{core_of, notations_in}
+use Rattle.ic_parts.specs.Book.{core_of, notations_in}
 use Rattle.ic_dump.specs.Lines.{cell_lines_from}
 use Rattle.ic_dump.specs.Records.{core_seen}
 use Rattle.ic_dump.proofs.CellLemmas.{lines_next}

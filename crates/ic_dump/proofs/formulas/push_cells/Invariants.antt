@@ -1,5 +1,5 @@
 use Rattle.std.proofs.Common.{◌≡◌, ◌++◌, drop, map}
-use Rattle.ic_book.specs.Book.{core_of, notations_in}
+use Rattle.ic_parts.specs.Book.{core_of, notations_in}
 use Rattle.ic_dump.specs.Lines.{cell_lines_from}
 use Rattle.ic_dump.specs.Records.{core_seen}
 use Rattle.ic_dump.proofs.formulas.push_cells.Given as goal

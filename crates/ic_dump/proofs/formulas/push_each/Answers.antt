@@ -1,8 +1,8 @@
 use Rattle.std.proofs.Common.{◌<◌, ◌++◌, ◌∷◌, [], ◌∙◌, ap, length, rules, arith}
 use Rattle.ic_laws.specs.CoreBook.{CellPlace}
 use Rattle.ic_laws.specs.declared.tree.Formula.{Formula}
-use Rattle.ic_book.specs.Book.{core_of, notations_in}
-use Rattle.ic_book.specs.Lent.{placed}
+use Rattle.ic_parts.specs.Book.{core_of, notations_in}
+use Rattle.ic_parts.specs.Lent.{placed}
 use Rattle.ic_dump.specs.Lines.{cell_line, english_formula}
 use Rattle.ic_dump.proofs.CellLemmas.{mapped_more}
 use Rattle.ic_dump.proofs.formulas.push_each.Goals as goal

@@ -1,7 +1,7 @@
 use Rattle.std.proofs.Common.{◌≡◌, ◌++◌, ℕ, chars, map, take}
 use Rattle.std.specs.Fmt.{decimal}
-use Rattle.ic_book.specs.Book.{core_of, notations_in}
-use Rattle.ic_book.specs.Lent.{placed}
+use Rattle.ic_parts.specs.Book.{core_of, notations_in}
+use Rattle.ic_parts.specs.Lent.{placed}
 use Rattle.ic_dump.specs.Lines.{lines_of_cells}
 use Rattle.ic_dump.proofs.formulas.push_each.Given as goal
 

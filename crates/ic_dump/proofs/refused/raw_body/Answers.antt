@@ -2,7 +2,7 @@ use Rattle.std.proofs.Common.{◌≡◌, ◌<◌, ◌∙◌, Some, ap, arith, fa
 use Rattle.std.specs.Option.{option_map_or}
 use Rattle.ic_laws.specs.CoreBook.{Definition, spelling_of}
 use Rattle.ic_laws.specs.Scene.{key_of}
-use Rattle.ic_book.specs.Workbook.{defined_name_of}
+use Rattle.ic_workbooks.specs.Workbook.{defined_name_of}
 use Rattle.ic_dump.specs.Records.{name_seen}
 use Rattle.ic_dump.specs.Refused.{is_raw}
 use Rattle.ic_dump.proofs.CellLemmas.{one_there, record_at, record_is}

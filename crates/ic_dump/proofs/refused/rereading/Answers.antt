@@ -1,10 +1,10 @@
 use Rattle.std.proofs.Common.{◌≡◌, ◌<◌, ◌∙◌, List, Some, ap, length, map, option_map, refl, rules, arith, slice_get, sym}
 use Rattle.std.proofs.lemmas.Option.{slice_get-map, slice_get_read}
 use Rattle.std.specs.Prelude.{flat_map}
-use Rattle.ic_book.specs.Book.{notations_in}
-use Rattle.ic_book.specs.Lent.{placed}
-use Rattle.ic_book.specs.Sites.{site_of}
-use Rattle.ic_book.specs.declared.lent.PlacedFormula.{PlacedFormula}
+use Rattle.ic_parts.specs.Book.{notations_in}
+use Rattle.ic_parts.specs.Lent.{placed}
+use Rattle.ic_parts.specs.Sites.{site_of}
+use Rattle.ic_parts.specs.declared.lent.PlacedFormula.{PlacedFormula}
 use Rattle.ic_dump.specs.Records.{core_seen}
 use Rattle.ic_dump.specs.Refused.{rereading_cell}
 use Rattle.ic_dump.proofs.RefusedLemmas.{found_here, none_here, rereading_of}

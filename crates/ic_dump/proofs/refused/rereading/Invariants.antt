@@ -1,7 +1,7 @@
 use Rattle.std.proofs.Common.{◌≡◌, drop, map}
 use Rattle.std.specs.List.{slice_get}
 use Rattle.std.specs.Prelude.{flat_map}
-use Rattle.ic_book.specs.Book.{notations_in}
+use Rattle.ic_parts.specs.Book.{notations_in}
 use Rattle.ic_dump.specs.Records.{core_seen}
 use Rattle.ic_dump.proofs.RefusedLemmas.{rereading_of}
 use Rattle.ic_dump.proofs.refused.rereading.Given as goal

@@ -1,8 +1,8 @@
 use Rattle.std.proofs.Common.{◌≡◌, ◌<◌, ◌∷◌, [], ◌∙◌, List, Some, ap, arith, cond, false, length, map, option_map, refl, rules, slice_get, sym, true}
 use Rattle.std.proofs.lemmas.Option.{slice_get-map, slice_get_read}
 use Rattle.ic_machine.specs.Refusal.{CellSite, Site}
-use Rattle.ic_book.specs.Book.{notations_in}
-use Rattle.ic_book.specs.Lent.{placed}
+use Rattle.ic_parts.specs.Book.{notations_in}
+use Rattle.ic_parts.specs.Lent.{placed}
 use Rattle.ic_dump.specs.Refused.{rereading_cell, rereads}
 use Rattle.ic_dump.proofs.RefusedLemmas.{found_here, none_here}
 use Rattle.ic_dump.proofs.refused.rereading_among.Goals as goal

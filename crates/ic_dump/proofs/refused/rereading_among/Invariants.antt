@@ -1,8 +1,8 @@
 use Rattle.std.proofs.Common.{◌≡◌, drop, map}
 use Rattle.std.specs.List.{slice_get}
 use Rattle.std.specs.Prelude.{flat_map}
-use Rattle.ic_book.specs.Book.{notations_in}
-use Rattle.ic_book.specs.Lent.{placed}
+use Rattle.ic_parts.specs.Book.{notations_in}
+use Rattle.ic_parts.specs.Lent.{placed}
 use Rattle.ic_dump.specs.Refused.{rereading_cell}
 use Rattle.ic_dump.proofs.refused.rereading_among.Given as goal
 

@@ -1,6 +1,6 @@
 use Rattle.std.proofs.Common.{◌≡◌, ◌∙◌, Some, ap, map, option_map, sym}
 use Rattle.ic_laws.specs.CoreBook.{Sheet}
-use Rattle.ic_book.specs.Lent.{placed}
+use Rattle.ic_parts.specs.Lent.{placed}
 use Rattle.ic_dump.proofs.sheets.cells_at.Goals as goal
 
 pub returns-in-Ok : goal.returns-in-Ok

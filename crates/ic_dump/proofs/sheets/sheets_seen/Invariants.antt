@@ -1,5 +1,5 @@
 use Rattle.std.proofs.Common.{◌≡◌, map, take}
-use Rattle.ic_book.specs.Book.{core_of}
+use Rattle.ic_parts.specs.Book.{core_of}
 use Rattle.ic_dump.specs.Records.{core_seen}
 use Rattle.ic_dump.proofs.sheets.sheets_seen.Given as goal
 

@@ -2,8 +2,8 @@ use Rattle.std.proofs.Common.{◌≡◌, ◌+◌, ◌<◌, ◌^◌, ◌++◌, []
 use Rattle.std.proofs.lemmas.Bool.{eqb-true}
 use Rattle.std.proofs.lemmas.List.{length-map, nil_from_length}
 use Rattle.std.specs.Prelude.{vec_len, zip}
-use Rattle.ic_book.specs.Book.{core_of}
-use Rattle.ic_book.specs.Workbook.{defined_name_of}
+use Rattle.ic_parts.specs.Book.{core_of}
+use Rattle.ic_workbooks.specs.Workbook.{defined_name_of}
 use Rattle.ic_dump.specs.Passing.{free_numerals, passing_ids, sheet_named, taken_names}
 use Rattle.ic_dump.proofs.RecordLemmas.{all_stand, own_stand, passing_told}
 use Rattle.ic_dump.proofs.standing.standing_sheets.Goals as goal

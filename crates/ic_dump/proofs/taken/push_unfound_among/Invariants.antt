@@ -1,6 +1,6 @@
 use Rattle.std.proofs.Common.{◌≡◌, ◌++◌, map, take}
 use Rattle.std.specs.Prelude.{flat_map}
-use Rattle.ic_book.specs.Lent.{placed}
+use Rattle.ic_parts.specs.Lent.{placed}
 use Rattle.ic_dump.specs.Passing.{unfound_of}
 use Rattle.ic_dump.proofs.taken.push_unfound_among.Given as goal
 

@@ -1,7 +1,7 @@
 use Rattle.std.proofs.Common.{◌<◌, ◌++◌, ◌∙◌, ap, length, map, rules, arith, sym}
 use Rattle.std.proofs.lemmas.List.{take_all}
 use Rattle.std.specs.Prelude.{flat_map}
-use Rattle.ic_book.specs.Lent.{placed}
+use Rattle.ic_parts.specs.Lent.{placed}
 use Rattle.ic_dump.specs.Passing.{unfound_of}
 use Rattle.ic_dump.specs.Records.{core_seen}
 use Rattle.ic_dump.proofs.CellLemmas.{made_more}

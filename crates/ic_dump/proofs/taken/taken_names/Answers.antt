@@ -1,6 +1,6 @@
 use Rattle.std.proofs.Common.{◌++◌, ◌∙◌, List, ap, flat_map, map}
 use Rattle.ic_laws.specs.CoreBook.{Sheet}
-use Rattle.ic_book.specs.Book.{core_of}
+use Rattle.ic_parts.specs.Book.{core_of}
 use Rattle.ic_dump.specs.Passing.{unfound_of}
 use Rattle.ic_dump.proofs.RecordLemmas.{own_names}
 use Rattle.ic_dump.proofs.TakenLemmas.{taken_parts}

@@ -1,6 +1,6 @@
 use Rattle.std.proofs.Common.{◌≡◌, inl, inr, [], refl, subst}
 use Rattle.std.specs.Prelude.{IsNone}
-use Rattle.ic_book.specs.Whole.{whole_of}
+use Rattle.ic_parts.specs.Whole.{whole_of}
 use Rattle.ic_lines.proofs.ToldLemmas.{IfTold-weaker}
 use Rattle.ic_run.specs.Translate.{target_refusal}
 use Rattle.ic_tables.specs.Tables.{TableSet}

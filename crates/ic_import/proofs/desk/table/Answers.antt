@@ -1,5 +1,5 @@
 use Rattle.std.proofs.Common.{◌∷◌, ◌++◌, [], chars, string_bytes, ap, ◌∙◌}
-use Rattle.ic_book.specs.Whole.{whole_of}
+use Rattle.ic_parts.specs.Whole.{whole_of}
 use Rattle.ic_laws.specs.Character.{line_feed}
 use Rattle.ic_import.proofs.DeskLemmas.{markup_told}
 use Rattle.ic_import.proofs.desk.table.Goals as goal

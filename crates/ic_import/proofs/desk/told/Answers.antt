@@ -1,6 +1,6 @@
 use Rattle.std.proofs.Common.{ℕ, Result, chars, string_bytes, subst, sym}
 use Rattle.std.specs.Prelude.{IfOk}
-use Rattle.ic_book.specs.Whole.{whole_of}
+use Rattle.ic_parts.specs.Whole.{whole_of}
 use Rattle.ic_import.specs.Desk.{SaysOf, status_of}
 use Rattle.ic_import.specs.declared.error.ImportError.{ImportError}
 use Rattle.ic_import.proofs.DeskLemmas.{table_told}

@@ -6,9 +6,9 @@ use Rattle.ic_laws.specs.Refusal as refusals
 use Rattle.ic_tables.specs.Tables.{TableSet, language_of, locale_of}
 use Rattle.ic_machine.specs.Refusal.{InvalidColumn, InvalidRow, InvalidSheet, OfCore}
 use Rattle.ic_machine.specs.Reply.{bool_field}
-use Rattle.ic_book.proofs.CellReads.{of_error}
-use Rattle.ic_book.specs.Refused.{TellsOnly, refusal_of}
-use Rattle.ic_book.specs.Whole.{whole_of}
+use Rattle.ic_parts.proofs.CellReads.{of_error}
+use Rattle.ic_parts.specs.Refused.{TellsOnly, refusal_of}
+use Rattle.ic_parts.specs.Whole.{whole_of}
 use Rattle.ic_import.specs.Import.{request, request_refusal}
 use Rattle.ic_import.proofs.ImportLemmas.{column_refused, language_refused, locale_found, locale_refused, not_none, nothing_refused, row_refused, sheet_lacked, sheet_refused, sheet_stands}
 use Rattle.ic_import.proofs.import.asked.Goals as goal

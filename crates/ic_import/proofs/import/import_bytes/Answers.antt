@@ -1,5 +1,5 @@
 use Rattle.std.proofs.Common.{◌≡◌, ap, chars, length, subst, ◌∙◌}
-use Rattle.ic_book.specs.Whole.{whole_of}
+use Rattle.ic_parts.specs.Whole.{whole_of}
 use Rattle.ic_import.specs.Import.{BlocksRightly, IsOfBytes, Outcome, Tells, TellsImport, TellsTyping, TellsWrong, request, separator_of}
 use Rattle.ic_import.specs.Records.{all_fields, records_of}
 use Rattle.ic_import.specs.Typed.{Typable}

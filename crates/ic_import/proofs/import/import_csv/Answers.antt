@@ -3,7 +3,7 @@ use Rattle.std.proofs.lemmas.Result.{IfErr-weaker}
 use Rattle.ic_lines.proofs.ToldLemmas.{IfTold-weaker}
 use Rattle.ic_lines.specs.Bytes.{HasFault, IfTold}
 use Rattle.ic_lines.specs.Reading.{most_turns}
-use Rattle.ic_book.specs.Whole.{whole_of}
+use Rattle.ic_parts.specs.Whole.{whole_of}
 use Rattle.ic_import.specs.Import.{BlocksRightly, IsOfRequest, RefusesRequest, RestsOn, RestsOnBytes, request, request_refusal}
 use Rattle.ic_import.specs.declared.error.ImportError.TheVariants as errors
 use Rattle.ic_import.proofs.ImportLemmas.{bytes_kind, reading_kind, request_met}

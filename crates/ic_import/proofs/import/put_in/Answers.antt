@@ -1,7 +1,7 @@
 use Rattle.std.proofs.Common.{◌≡◌, ℕ, List, IsSome, ap, chars, subst, sym, ◌∙◌}
 use Rattle.ic_tables.specs.Tables.{TableSet, language_of, locale_of}
 use Rattle.ic_machine.specs.Book as machine
-use Rattle.ic_book.specs.Whole.{whole_of}
+use Rattle.ic_parts.specs.Whole.{whole_of}
 use Rattle.ic_import.specs.Import.{TellsTyping, in_notation, request}
 use Rattle.ic_import.specs.Records.{all_fields, records_of}
 use Rattle.ic_import.specs.Typed.{TellsBlocked, typed}

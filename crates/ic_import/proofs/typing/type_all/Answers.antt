@@ -1,7 +1,7 @@
 use Rattle.std.proofs.Common.{◌≡◌, ◌+◌, ◌∷◌, ◌++◌, ℕ, List, ap, arith, length, length-append, subst, sym, ◌∙◌}
 use Rattle.csv.specs.Records.{fields_of}
 use Rattle.ic_laws.specs.CoreBook.{CellPlace}
-use Rattle.ic_book.specs.Whole.{whole_of}
+use Rattle.ic_parts.specs.Whole.{whole_of}
 use Rattle.ic_import.specs.Records.{Field, TakesRecord, all_fields, fields_from, fields_in, records_of}
 use Rattle.ic_import.specs.Typed.{TellsBlocked, Typable, typed}
 use Rattle.ic_import.specs.declared.error.ImportError.TheVariants as errors

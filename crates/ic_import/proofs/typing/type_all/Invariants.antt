@@ -1,5 +1,5 @@
 use Rattle.std.proofs.Common.{◌≡◌, ◌+◌, length}
-use Rattle.ic_book.specs.Whole.{whole_of}
+use Rattle.ic_parts.specs.Whole.{whole_of}
 use Rattle.ic_import.specs.Records.{all_fields, fields_from, records_of}
 use Rattle.ic_import.specs.Typed.{Typable, typed}
 use Rattle.ic_import.proofs.TypingLemmas.{IsFew}

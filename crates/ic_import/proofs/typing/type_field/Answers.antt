@@ -5,9 +5,9 @@ use Rattle.ic_laws.specs.CoreBook.{CellPlace}
 use Rattle.ic_laws.specs.Position.{is_column, is_row}
 use Rattle.ic_refs.proofs.ColumnLemmas.{number_of_column, number_of_row}
 use Rattle.ic_machine.specs.Book.{Book, Stepped}
-use Rattle.ic_book.specs.Does.{Refused, WantedIn}
-use Rattle.ic_book.specs.Refused.{refusal_of}
-use Rattle.ic_book.specs.Whole.{whole_of}
+use Rattle.ic_parts.specs.Does.{Refused, WantedIn}
+use Rattle.ic_parts.specs.Refused.{refusal_of}
+use Rattle.ic_parts.specs.Whole.{whole_of}
 use Rattle.ic_import.specs.Placed.{place_of}
 use Rattle.ic_import.specs.Records.{Field}
 use Rattle.ic_import.specs.Typed.{TellsBlocked, typed}

@@ -1,7 +1,7 @@
 use Rattle.std.proofs.Common.{◌≡◌, ◌+◌, List, [], ◌∷◌, None, Some, ap, arith, subst, sym, ◌∙◌}
 use Rattle.csv.specs.Records.{field_at, fields_of}
 use Rattle.ic_laws.specs.CoreBook.{CellPlace}
-use Rattle.ic_book.specs.Whole.{whole_of}
+use Rattle.ic_parts.specs.Whole.{whole_of}
 use Rattle.ic_import.specs.Records.{Field, fields_in}
 use Rattle.ic_import.specs.Typed.{TellsBlocked, Typable, typed}
 use Rattle.ic_import.proofs.FieldLemmas.{left_in, left_next, left_none}

@@ -1,6 +1,6 @@
 use Rattle.std.proofs.Common.{◌≡◌, ◌-◌}
 use Rattle.csv.specs.Records.{field_count, fields_of}
-use Rattle.ic_book.specs.Whole.{whole_of}
+use Rattle.ic_parts.specs.Whole.{whole_of}
 use Rattle.ic_import.specs.Records.{fields_in}
 use Rattle.ic_import.specs.Typed.{Typable, typed}
 use Rattle.ic_import.proofs.FieldLemmas.{left_in}

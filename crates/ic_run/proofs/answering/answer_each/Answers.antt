@@ -3,7 +3,7 @@ use Rattle.ic_lines.specs.Bytes.{IfTold}
 use Rattle.ic_lines.specs.Reading.{GivesHeld, GivesLine, Reading, SeesEnd, budget, unread}
 use Rattle.ic_lines.proofs.TakeLemmas.{SeesEnd-join, SeesEnd-start}
 use Rattle.ic_lines.proofs.ToldLemmas.{IfTold-join, IfTold-same}
-use Rattle.ic_book.specs.Book.{ModelState}
+use Rattle.ic_parts.specs.Book.{ModelState}
 use Rattle.ic_run.specs.Answering.{LeavesAnswered}
 use Rattle.ic_run.proofs.AnsweringLemmas.{Next, Progress, Progress-step, answers_all_told, came_further, came_nowhere, first_progress, leaves_at_line, leaves_at_reader, next_told, some_at_line, some_came}
 use Rattle.ic_run.proofs.RunLemmas.{IfErr-given, IsSome-is}

@@ -1,7 +1,7 @@
 use Rattle.std.proofs.Common.{ap, length, sym, ◌∙◌}
 use Rattle.std.proofs.lemmas.List.{length-map}
-use Rattle.ic_book.specs.Book.{whole_sheet}
-use Rattle.ic_book.specs.Workbook.{worksheet_of}
+use Rattle.ic_parts.specs.Book.{whole_sheet}
+use Rattle.ic_workbooks.specs.Workbook.{worksheet_of}
 use Rattle.ic_cells.specs.declared.workbook.Workbook.{Workbook}
 use Rattle.ic_run.specs.Counts.{formulas_of}
 use Rattle.ic_run.proofs.CountLemmas.{formulas_counted}

@@ -1,8 +1,8 @@
 use Rattle.std.proofs.Common.{ℕ, List}
 use Rattle.ic_laws.specs.Lines.{texts_of}
 use Rattle.ic_lines.specs.Bytes.{IfTold}
-use Rattle.ic_book.specs.Book.{core_of, notations_in}
-use Rattle.ic_book.specs.Whole.{whole_of}
+use Rattle.ic_parts.specs.Book.{core_of, notations_in}
+use Rattle.ic_parts.specs.Whole.{whole_of}
 use Rattle.ic_run.specs.Answering.{AnswersAll, LeavesAnswered}
 use Rattle.ic_run.specs.Core.{AreCore, IsPlainBook, identity_machine, whole_machine}
 use Rattle.ic_run.specs.Run.{AppendsReplies, IsAfterAll, LeavesRun, LinesDo, TakesAll}

@@ -1,5 +1,5 @@
 use Rattle.std.proofs.Common.{◌≡◌, ℕ, ◌+◌, ◌-◌, List, ◌∷◌, arith, ap, sym, subst, ◌∙◌}
-use Rattle.ic_book.specs.Whole.{whole_of}
+use Rattle.ic_parts.specs.Whole.{whole_of}
 use Rattle.ic_machine.specs.Book.{Book}
 use Rattle.ic_run.specs.Make.{made_command, made_from, made_lines}
 use Rattle.ic_run.proofs.MakeLemmas.{IsHalfway, answered_next, made_next}

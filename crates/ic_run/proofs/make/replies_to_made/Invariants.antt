@@ -1,5 +1,5 @@
 use Rattle.std.proofs.Common.{◌+◌, ◌-◌}
-use Rattle.ic_book.specs.Whole.{whole_of}
+use Rattle.ic_parts.specs.Whole.{whole_of}
 use Rattle.ic_run.specs.Make.{made_from, made_lines}
 use Rattle.ic_run.proofs.MakeLemmas.{IsHalfway}
 use Rattle.ic_run.proofs.make.replies_to_made.Given as goal

@@ -6,8 +6,8 @@ use Rattle.ic_machine.specs.Command.{OnArrays}
 use Rattle.ic_machine.specs.subjects.Arrays.{SetUserArrayFormula}
 use Rattle.ic_words.specs.subjects.Arrays.{arrays_meant}
 use Rattle.ic_sheets.proofs.CellLemmas.{stored_block}
-use Rattle.ic_book.specs.Translated.{IsToldOf}
-use Rattle.ic_book.specs.Whole.{whole_of}
+use Rattle.ic_parts.specs.Translated.{IsToldOf}
+use Rattle.ic_parts.specs.Whole.{whole_of}
 use Rattle.ic_run.specs.Translate.{IsPlan}
 use Rattle.ic_run.proofs.TurnLemmas.{told_where}
 use Rattle.ic_run.proofs.plan.arrays_plan.Goals as goal

@@ -2,8 +2,8 @@ use Rattle.std.proofs.Common.{ℕ, List, chars, refl, subst, sym}
 use Rattle.ic_machine.specs.Command.{OnDefinitions}
 use Rattle.ic_machine.specs.subjects.Definitions.{NewDefinedName, UpdateDefinedName, update_of}
 use Rattle.ic_words.specs.subjects.Definitions.{definitions_meant}
-use Rattle.ic_book.specs.Translated.{IsToldOf, IsToldWhere}
-use Rattle.ic_book.specs.Whole.{whole_of}
+use Rattle.ic_parts.specs.Translated.{IsToldOf, IsToldWhere}
+use Rattle.ic_parts.specs.Whole.{whole_of}
 use Rattle.ic_run.specs.Translate.{IsPlan}
 use Rattle.ic_run.proofs.TurnLemmas.{told_where}
 use Rattle.ic_run.proofs.plan.definitions_plan.Goals as goal

@@ -1,6 +1,6 @@
 use Rattle.std.proofs.Common.{◌≡◌, drop}
 use Rattle.ic_run.specs.Core.{whole_machine}
-use Rattle.ic_book.specs.Whole.{whole_of}
+use Rattle.ic_parts.specs.Whole.{whole_of}
 use Rattle.ic_machine.specs.Run.{after}
 use Rattle.ic_run.proofs.prepared.answer_lines.Given as goal
 

@@ -1,6 +1,6 @@
 use Rattle.std.proofs.Common.{◌≡◌, ap, subst, ◌∙◌}
-use Rattle.ic_book.specs.Book as held
-use Rattle.ic_book.specs.Whole.{whole_of}
+use Rattle.ic_parts.specs.Book as held
+use Rattle.ic_parts.specs.Whole.{whole_of}
 use Rattle.ic_laws.specs.Lines.{texts_of}
 use Rattle.ic_lines.proofs.ToldLemmas.{IfTold-weaker}
 use Rattle.ic_machine.specs.Run.{after}

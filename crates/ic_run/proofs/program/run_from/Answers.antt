@@ -4,8 +4,8 @@ use Rattle.ic_laws.specs.Lines.{texts_of}
 use Rattle.ic_tables.specs.Tables.{TableSet}
 use Rattle.ic_lines.proofs.ToldLemmas.{IfTold-weaker}
 use Rattle.ic_lines.specs.Bytes.{IfTold}
-use Rattle.ic_book.specs.Book.{Book, core_of}
-use Rattle.ic_book.specs.Whole.{whole_of}
+use Rattle.ic_parts.specs.Book.{Book, core_of}
+use Rattle.ic_parts.specs.Whole.{whole_of}
 use Rattle.ic_run.specs.Desk.{start_book}
 use Rattle.ic_run.specs.Start.{setting}
 use Rattle.ic_run.specs.Core.{AreCore, IsPlainBook, identity_machine, whole_machine}

@@ -1,6 +1,6 @@
 use Rattle.std.proofs.Common.{subst}
 use Rattle.ic_machine.specs.Book.{Book}
-use Rattle.ic_book.specs.Whole.{whole_of}
+use Rattle.ic_parts.specs.Whole.{whole_of}
 use Rattle.ic_run.specs.Translate.{IsPlan}
 use Rattle.ic_run.proofs.TurnLemmas.{goes_unrun}
 use Rattle.ic_run.proofs.translating.do_plan.Goals as goal

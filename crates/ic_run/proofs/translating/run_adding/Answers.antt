@@ -3,7 +3,7 @@ use Rattle.ic_machine.specs.Book.{Book}
 use Rattle.ic_machine.specs.Command.{OnSheets}
 use Rattle.ic_machine.specs.Translation.{line_of}
 use Rattle.ic_machine.specs.subjects.Sheets.{NewSheet, new_sheet_name}
-use Rattle.ic_book.specs.Whole.{whole_of}
+use Rattle.ic_parts.specs.Whole.{whole_of}
 use Rattle.ic_run.proofs.TurnLemmas.{becomes_so}
 use Rattle.ic_run.proofs.translating.run_adding.Goals as goal
 

@@ -1,6 +1,6 @@
 use Rattle.std.proofs.Common.{sym, ◌∙◌}
 use Rattle.ic_machine.specs.Book.{Book}
-use Rattle.ic_book.specs.Whole.{whole_of}
+use Rattle.ic_parts.specs.Whole.{whole_of}
 use Rattle.ic_run.proofs.TurnLemmas.{becomes_same}
 use Rattle.ic_run.proofs.translating.run_staying.Goals as goal
 

@@ -2,8 +2,8 @@ use Rattle.std.proofs.Common.{ap, chars, option_map, refl, string_bytes, sym, â—
 use Rattle.std.specs.Prelude.{option_and_then}
 use Rattle.ic_machine.specs.Book.{Book}
 use Rattle.ic_machine.specs.Translation.{in_notation, texts_of, why_not, with_last}
-use Rattle.ic_book.specs.Translated.{IsIn, why_meant}
-use Rattle.ic_book.specs.Whole.{whole_of}
+use Rattle.ic_parts.specs.Translated.{IsIn, why_meant}
+use Rattle.ic_parts.specs.Whole.{whole_of}
 use Rattle.ic_run.proofs.TurnLemmas.{becomes_so, cannot_so}
 use Rattle.ic_run.proofs.translating.run_writing.Goals as goal
 

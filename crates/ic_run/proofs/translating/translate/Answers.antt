@@ -1,8 +1,8 @@
 use Rattle.std.proofs.Common.{◌≡◌, ◌+◌, ◌<◌, ◌∷◌, ℕ, List, Ok, inr, length, drop, chars, ap, arith, subst, sym, ◌∙◌}
 use Rattle.std.proofs.lemmas.List.{drop_more}
 use Rattle.ic_machine.specs.Translation.{IsTranslation}
-use Rattle.ic_book.specs.Book.{NotationState}
-use Rattle.ic_book.specs.Whole.{whole_of}
+use Rattle.ic_parts.specs.Book.{NotationState}
+use Rattle.ic_parts.specs.Whole.{whole_of}
 use Rattle.ic_run.specs.Translate.{HasTranslated, IsTurn}
 use Rattle.ic_run.specs.declared.translating.TranslateError.TheVariants as errors
 use Rattle.ic_run.proofs.AcceptedLemmas.{accepted_beside}

@@ -1,5 +1,5 @@
 use Rattle.std.proofs.Common.{◌≡◌}
-use Rattle.ic_book.specs.Whole.{whole_of}
+use Rattle.ic_parts.specs.Whole.{whole_of}
 use Rattle.ic_run.proofs.TurnLemmas.{IsSoFar}
 use Rattle.ic_run.proofs.translating.translate.Given as goal
 

@@ -2,7 +2,7 @@ use Rattle.std.proofs.Common.{◌≡◌, None, Some, ap, chars, option_map, sym,
 use Rattle.ic_machine.specs.Command.{command_in, commands}
 use Rattle.ic_machine.specs.Step.{english_errors}
 use Rattle.ic_words.specs.Command.{command_meant}
-use Rattle.ic_book.specs.Whole.{whole_of}
+use Rattle.ic_parts.specs.Whole.{whole_of}
 use Rattle.ic_run.proofs.TurnLemmas.{goes_bad}
 use Rattle.ic_run.proofs.translating.translate_line.Goals as goal
 

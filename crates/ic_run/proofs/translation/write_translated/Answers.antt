@@ -1,6 +1,6 @@
 use Rattle.std.proofs.Common.{◌≡◌, ◌++◌, ℕ, List, Ok, Err, ap, subst, sym, ◌∙◌}
-use Rattle.ic_book.specs.Translated.{why_meant}
-use Rattle.ic_book.specs.Whole.{whole_of}
+use Rattle.ic_parts.specs.Translated.{why_meant}
+use Rattle.ic_parts.specs.Whole.{whole_of}
 use Rattle.ic_lines.proofs.ToldLemmas.{IfTold-weaker}
 use Rattle.ic_lines.specs.Bytes.{AppendsFront}
 use Rattle.ic_run.specs.Start.{target}

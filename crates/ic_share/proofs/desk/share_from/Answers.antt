@@ -1,6 +1,6 @@
 use Rattle.std.proofs.Common.{[], ◌≡◌, sym, subst, ◌∙◌}
 use Rattle.ic_lines.specs.Bytes.{IfTold}
-use Rattle.ic_book.specs.Book.{Book}
+use Rattle.ic_parts.specs.Book.{Book}
 use Rattle.ic_run.specs.Desk.{start_book}
 use Rattle.ic_run.specs.Start.{setting}
 use Rattle.ic_run.proofs.DeskLemmas.{at_error_status, on_ok_at_0}

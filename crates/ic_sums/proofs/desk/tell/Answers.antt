@@ -1,4 +1,4 @@
-use Rattle.ic_book.specs.Whole.{whole_of}
+use Rattle.ic_parts.specs.Whole.{whole_of}
 use Rattle.ic_lines.proofs.ToldLemmas.{IfTold-weaker}
 use Rattle.ic_sums.specs.Told.{WritesBook, WritesBookFront, WritesValues, WritesValuesFront}
 use Rattle.ic_sums.proofs.desk.tell.Goals as goal

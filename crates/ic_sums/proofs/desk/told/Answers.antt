@@ -1,6 +1,6 @@
 use Rattle.std.proofs.Common.{ap, flat_map, ◌∙◌}
 use Rattle.std.proofs.lemmas.Result.{IfOk-weaker}
-use Rattle.ic_book.specs.Whole.{whole_of}
+use Rattle.ic_parts.specs.Whole.{whole_of}
 use Rattle.ic_sums.specs.Told.{told_cell}
 use Rattle.ic_sums.proofs.desk.told.Goals as goal
 

@@ -1,5 +1,5 @@
 use Rattle.std.proofs.Common.{chars}
-use Rattle.ic_book.proofs.DoesLemmas.{adds}
+use Rattle.ic_parts.proofs.DoesLemmas.{adds}
 use Rattle.ic_book.proofs.model.Model.add_sheet.Goals as goal
 
 pub returns-clause-does : goal.returns-clause-does

@@ -7,16 +7,17 @@ use Rattle.ic_laws.specs.CoreStep.{add_sheet_refusal, changed_by, with_new_sheet
 use Rattle.ic_laws.specs.Name.{agrees}
 use Rattle.ic_laws.specs.Refusal.{IdsUsedUp, SheetExists}
 use Rattle.ic_definitions.specs.Named.{definitions_scene}
-use Rattle.ic_book.specs.Book.{ModelState, core_of, notations_in}
-use Rattle.ic_book.specs.Change.{book_changed_by, with_added_sheet}
+use Rattle.ic_parts.specs.Book.{ModelState, core_of, notations_in}
+use Rattle.ic_parts.specs.Change.{book_changed_by, with_added_sheet}
 use Rattle.ic_book.specs.Inside.{held, held_state, with_contents}
-use Rattle.ic_book.specs.LookUps.{LooksUpAdded, looks_up_in}
-use Rattle.ic_book.specs.Refused.{Refuses}
-use Rattle.ic_book.proofs.BookLemmas.{added_change, core_of-changed}
-use Rattle.ic_book.proofs.BookValid.{added_valid}
-use Rattle.ic_book.proofs.HeldLemmas.{no_memory, add_accepts, add_taken, add_used_up, added, binds_added, fresh_above, fresh_is, held_after, same_naming, seen_names}
-use Rattle.ic_book.proofs.SparedBodies.{naming_bodies}
-use Rattle.ic_book.proofs.LookUpLemmas.{looks_up_is}
+use Rattle.ic_changes.specs.LookUps.{LooksUpAdded, looks_up_in}
+use Rattle.ic_parts.specs.Refused.{Refuses}
+use Rattle.ic_parts.proofs.BookLemmas.{added_change, core_of-changed}
+use Rattle.ic_parts.proofs.BookValid.{added_valid}
+use Rattle.ic_parts.proofs.HeldLemmas.{no_memory, add_accepts, add_taken, add_used_up, fresh_is, seen_names}
+use Rattle.ic_book.proofs.HeldLemmas.{added, binds_added, fresh_above, held_after, same_naming}
+use Rattle.ic_changes.proofs.SparedBodies.{naming_bodies}
+use Rattle.ic_changes.proofs.LookUpLemmas.{looks_up_is}
 use Rattle.ic_book.proofs.model.Model.append_sheet.Goals as goal
 
 pub returns-then-is_taken-clause-refused : goal.returns-then-is_taken-clause-refused

@@ -1,7 +1,7 @@
 use Rattle.std.proofs.Common.{◌++◌, ℕ, List, ap, chars, ◌∙◌}
 use Rattle.std.proofs.lemmas.Str.{chars-nil}
 use Rattle.ic_sheets.specs.Sheet.{sheet_of}
-use Rattle.ic_book.specs.Markup.{row_behind, row_shown}
+use Rattle.ic_parts.specs.Markup.{row_behind, row_shown}
 use Rattle.ic_book.proofs.model.Model.blank_row.Goals as goal
 
 pub returns : goal.returns

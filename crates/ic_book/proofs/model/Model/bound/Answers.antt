@@ -3,7 +3,7 @@ use Rattle.std.proofs.lemmas.Result.{IfOk-weaker}
 use Rattle.ic_laws.specs.Binding.{bound}
 use Rattle.ic_laws.specs.Notations.{english_function}
 use Rattle.ic_tree.proofs.NotationLaws.{english_function_is}
-use Rattle.ic_book.specs.Book.{ModelState, notations_in, scene_in}
+use Rattle.ic_parts.specs.Book.{ModelState, notations_in, scene_in}
 use Rattle.ic_book.proofs.model.Model.bound.Goals as goal
 
 pub returns : goal.returns

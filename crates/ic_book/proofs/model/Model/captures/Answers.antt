@@ -1,8 +1,8 @@
 use Rattle.std.proofs.Common.{chars, ◌∙◌}
 use Rattle.ic_machine.specs.Refusal.{first_refusal}
 use Rattle.ic_machine.specs.subjects.Definitions.{question_causes, update_of}
-use Rattle.ic_book.specs.Whole.{whole_of}
-use Rattle.ic_book.proofs.UpdatedDoes.{question_wants}
+use Rattle.ic_parts.specs.Whole.{whole_of}
+use Rattle.ic_changes.proofs.UpdatedDoes.{question_wants}
 use Rattle.ic_book.proofs.UpdatedHeld.{captures_held, leaves_held}
 use Rattle.ic_book.proofs.model.Model.captures.Goals as goal
 

@@ -4,8 +4,8 @@ use Rattle.std.specs.List.{slice_get}
 use Rattle.std.proofs.lemmas.Option.{slice_get-map}
 use Rattle.ic_sheets.proofs.CellLemmas.{stored_pair}
 use Rattle.ic_sheets.specs.Sheet.{sheet_of}
-use Rattle.ic_book.specs.Book.{ModelState}
-use Rattle.ic_book.proofs.HeldLemmas.{at_index}
+use Rattle.ic_parts.specs.Book.{ModelState}
+use Rattle.ic_parts.proofs.HeldLemmas.{at_index}
 use Rattle.ic_book.proofs.model.Model.cell_at.Goals as goal
 
 pub returns-in-Some-clause-finds : goal.returns-in-Some-clause-finds

@@ -2,9 +2,9 @@ use Rattle.std.proofs.Common.{ap, chars, inl, is_some, option_map, sym, ◌∙�
 use Rattle.std.specs.List.{list_any}
 use Rattle.ic_laws.specs.CoreStep.{is_named}
 use Rattle.ic_definitions.proofs.NamesFacts.{position_any}
-use Rattle.ic_book.specs.Book.{ModelState, core_of, notations_in}
-use Rattle.ic_book.specs.Definitions.{body_of_typed}
-use Rattle.ic_book.proofs.NameLemmas.{body_unread, name_accepted, name_taken, no_body}
+use Rattle.ic_parts.specs.Book.{ModelState, core_of, notations_in}
+use Rattle.ic_parts.specs.Definitions.{body_of_typed}
+use Rattle.ic_parts.proofs.NameLemmas.{body_unread, name_accepted, name_taken, no_body}
 use Rattle.ic_book.proofs.model.Model.checked_definition.Goals as goal
 
 pub returns-then-is_some-clause-refused : goal.returns-then-is_some-clause-refused

@@ -6,9 +6,9 @@ use Rattle.ic_laws.specs.Name.{agrees}
 use Rattle.ic_laws.specs.Scene.{same_scope}
 use Rattle.ic_machine.specs.subjects.Definitions.{update_of}
 use Rattle.ic_definitions.proofs.NamesFacts.{position_none, some_position}
-use Rattle.ic_book.specs.Book.{ModelState}
-use Rattle.ic_book.specs.Definitions.{body_of_typed}
-use Rattle.ic_book.proofs.UpdatedChecks.{asked, asked_late, is_checked, meets, unnamed, unread}
+use Rattle.ic_parts.specs.Book.{ModelState}
+use Rattle.ic_parts.specs.Definitions.{body_of_typed}
+use Rattle.ic_changes.proofs.UpdatedChecks.{asked, asked_late, is_checked, meets, unnamed, unread}
 use Rattle.ic_book.proofs.model.Model.checked_update.Goals as goal
 
 pub returns-then-meets_other-clause-refused : goal.returns-then-meets_other-clause-refused

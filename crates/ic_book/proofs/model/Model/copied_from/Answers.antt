@@ -1,10 +1,10 @@
 use Rattle.std.proofs.Common.{ap, ◌∙◌}
 use Rattle.ic_machine.specs.Refusal.{InvalidSheet, first_refusal}
 use Rattle.ic_sheets.specs.Sheet.{sheet_of}
-use Rattle.ic_book.specs.Extended.{cells_causes}
-use Rattle.ic_book.specs.Refused.{refusal_of}
-use Rattle.ic_book.proofs.ExtendLemmas.{sheets_stand, source_lacks, target_lacks}
-use Rattle.ic_book.proofs.GridLemmas.{told_again}
+use Rattle.ic_parts.specs.Extended.{cells_causes}
+use Rattle.ic_parts.specs.Refused.{refusal_of}
+use Rattle.ic_parts.proofs.ExtendLemmas.{sheets_stand, source_lacks, target_lacks}
+use Rattle.ic_parts.proofs.GridLemmas.{told_again}
 use Rattle.ic_book.proofs.model.Model.copied_from.Goals as goal
 
 pub returns-in_err-id-clause-refused : goal.returns-in_err-id-clause-refused

@@ -5,9 +5,9 @@ use Rattle.ic_machine.specs.subjects.Sheets.{name_of_copy}
 use Rattle.ic_sheets.specs.Sheet.{Sheet}
 use Rattle.ic_tree.proofs.NotationLaws.{english_function_is}
 use Rattle.ic_tree.specs.LanguageWords.{function_of}
-use Rattle.ic_book.specs.Book.{ModelState, core_of, whole_of}
-use Rattle.ic_book.specs.Change.{book_changed_by}
-use Rattle.ic_book.specs.Copied.{LooksUpCopied, definitions_copied, sheet_copied, with_copied_sheet}
+use Rattle.ic_parts.specs.Book.{ModelState, core_of, whole_of}
+use Rattle.ic_parts.specs.Change.{book_changed_by}
+use Rattle.ic_changes.specs.Copied.{LooksUpCopied, definitions_copied, sheet_copied, with_copied_sheet}
 use Rattle.ic_book.specs.Inside.{held, held_state, with_contents}
 use Rattle.ic_book.proofs.CopiedModel.{model_free, model_fresh, model_is, model_looks_up, model_unscoped, model_valid}
 use Rattle.ic_book.proofs.model.Model.copy_at.Goals as goal

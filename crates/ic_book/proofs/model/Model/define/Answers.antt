@@ -1,9 +1,9 @@
 use Rattle.std.proofs.Common.{chars}
-use Rattle.ic_book.specs.Definitions.{body_of_typed}
+use Rattle.ic_parts.specs.Definitions.{body_of_typed}
 use Rattle.ic_book.proofs.NameHeld.{defined_binds, defined_book, defined_core, defined_held, defined_looks_up, is_free, it_spares}
 use Rattle.ic_laws.specs.Changes.{definition_added}
 use Rattle.ic_laws.specs.CoreBook.{spelling_of}
-use Rattle.ic_book.proofs.NameIndexLemmas.{indexed_changed}
+use Rattle.ic_parts.proofs.NameIndexLemmas.{indexed_changed}
 use Rattle.ic_book.proofs.model.Model.define.Goals as goal
 
 pub add_definition-requires-clause-free : goal.add_definition-requires-clause-free

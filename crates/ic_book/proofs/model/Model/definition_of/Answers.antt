@@ -9,10 +9,10 @@ use Rattle.ic_laws.specs.Tree.{Bound}
 use Rattle.ic_laws.specs.declared.tree.Formula.TheVariants as formulas
 use Rattle.ic_laws.specs.declared.tree.NameKey.{NameKey}
 use Rattle.ic_tree.proofs.NotationLaws.{english_function_is}
-use Rattle.ic_book.specs.Book.{ModelState, core_of, notations_in}
-use Rattle.ic_book.specs.Scene.{scene_with}
-use Rattle.ic_book.specs.declared.scene.BookScene.{BookScene}
-use Rattle.ic_book.proofs.AddedNames.{scene_with_is}
+use Rattle.ic_parts.specs.Book.{ModelState, core_of, notations_in}
+use Rattle.ic_parts.specs.Scene.{scene_with}
+use Rattle.ic_parts.specs.declared.scene.BookScene.{BookScene}
+use Rattle.ic_parts.proofs.AddedNames.{scene_with_is}
 use Rattle.ic_book.proofs.model.Model.definition_of.Goals as goal
 
 pub new-scene-requires : goal.new-scene-requires

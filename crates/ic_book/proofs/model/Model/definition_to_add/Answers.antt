@@ -2,10 +2,10 @@ use Rattle.std.proofs.Common.{chars, subst, sym}
 use Rattle.std.proofs.lemmas.Result.{IfOk-weaker}
 use Rattle.ic_machine.specs.Command.{OnDefinitions}
 use Rattle.ic_machine.specs.subjects.Definitions.{NewDefinedName}
-use Rattle.ic_book.specs.Book.{whole_of}
-use Rattle.ic_book.specs.Definitions.{body_of_typed}
-use Rattle.ic_book.specs.Translated.{IsToldOf}
-use Rattle.ic_book.proofs.OwnDefinitions.{definition_gone, definition_told}
+use Rattle.ic_parts.specs.Book.{whole_of}
+use Rattle.ic_parts.specs.Definitions.{body_of_typed}
+use Rattle.ic_parts.specs.Translated.{IsToldOf}
+use Rattle.ic_changes.proofs.OwnDefinitions.{definition_gone, definition_told}
 use Rattle.ic_book.proofs.model.Model.definition_to_add.Goals as goal
 
 pub returns-in_ok-definition-in-Ok : goal.returns-in_ok-definition-in-Ok

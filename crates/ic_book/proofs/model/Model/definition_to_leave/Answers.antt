@@ -1,8 +1,9 @@
 use Rattle.std.proofs.Common.{chars, not, subst, sym, ap, ◌∙◌}
 use Rattle.ic_machine.specs.subjects.Definitions.{update_of}
-use Rattle.ic_book.specs.Book.{whole_of}
-use Rattle.ic_book.specs.Translated.{IsToldAsked, why_meant}
-use Rattle.ic_book.proofs.OwnDefinitions.{captures_gone, not_hindered, question_gone, spared_left}
+use Rattle.ic_parts.specs.Book.{whole_of}
+use Rattle.ic_parts.specs.Translated.{IsToldAsked, why_meant}
+use Rattle.ic_book.proofs.OwnDefinitions.{captures_gone, question_gone, spared_left}
+use Rattle.ic_changes.proofs.OwnDefinitions.{not_hindered}
 use Rattle.ic_book.proofs.model.Model.definition_to_leave.Goals as goal
 
 pub returns-then-is_none : goal.returns-then-is_none

@@ -8,14 +8,15 @@ use Rattle.ic_laws.specs.CoreStep.{changed_by, without_sheet}
 use Rattle.ic_sheets.proofs.RewritingLemmas.{sheet_there}
 use Rattle.ic_sheets.specs.Rewriting.{look_ups, looks_up_after}
 use Rattle.ic_sheets.specs.Sheet.{Sheet}
-use Rattle.ic_book.specs.Book.{ModelState, core_of, notations_in}
-use Rattle.ic_book.specs.Change.{book_changed_by, with_removed_sheet}
+use Rattle.ic_parts.specs.Book.{ModelState, core_of, notations_in}
+use Rattle.ic_parts.specs.Change.{book_changed_by, with_removed_sheet}
 use Rattle.ic_book.specs.Inside.{held, held_state, with_contents}
-use Rattle.ic_book.specs.LookUps.{LooksUpWithout}
-use Rattle.ic_book.proofs.BookLemmas.{core_of-changed, removed_change}
-use Rattle.ic_book.proofs.BookValid.{removed_valid}
-use Rattle.ic_book.proofs.HeldLemmas.{dangles_removed, delete_accepts, held_after, more_than_one, removed, same_going, there_is, within_of}
-use Rattle.ic_book.proofs.LookUpLemmas.{looks_up_at}
+use Rattle.ic_changes.specs.LookUps.{LooksUpWithout}
+use Rattle.ic_parts.proofs.BookLemmas.{core_of-changed, removed_change}
+use Rattle.ic_parts.proofs.BookValid.{removed_valid}
+use Rattle.ic_book.proofs.HeldLemmas.{dangles_removed, held_after, removed, same_going}
+use Rattle.ic_parts.proofs.HeldLemmas.{delete_accepts, more_than_one, there_is, within_of}
+use Rattle.ic_changes.proofs.LookUpLemmas.{looks_up_at}
 use Rattle.ic_book.proofs.model.Model.delete_at.Goals as goal
 
 pub invariant_of-self-2 : goal.invariant_of-self-2

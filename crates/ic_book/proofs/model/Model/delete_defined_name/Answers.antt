@@ -1,5 +1,5 @@
 use Rattle.std.proofs.Common.{chars}
-use Rattle.ic_book.proofs.DoesLemmas.{undefines}
+use Rattle.ic_parts.proofs.DoesLemmas.{undefines}
 use Rattle.ic_book.proofs.model.Model.delete_defined_name.Goals as goal
 
 pub returns-clause-does : goal.returns-clause-does

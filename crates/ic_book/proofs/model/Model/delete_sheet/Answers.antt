@@ -1,4 +1,4 @@
-use Rattle.ic_book.proofs.DoesLemmas.{deletes_at}
+use Rattle.ic_parts.proofs.DoesLemmas.{deletes_at}
 use Rattle.ic_book.proofs.model.Model.delete_sheet.Goals as goal
 
 pub returns-clause-does : goal.returns-clause-does

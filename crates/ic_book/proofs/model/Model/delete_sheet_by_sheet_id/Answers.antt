@@ -1,11 +1,11 @@
 use Rattle.std.proofs.Common.{sym, ap, subst, ◌∙◌}
 use Rattle.std.proofs.lemmas.Result.{IfOk-weaker}
 use Rattle.ic_laws.specs.CoreStep.{index_of_id}
-use Rattle.ic_book.specs.Book.{IsValidBook, ModelState, core_of}
-use Rattle.ic_book.specs.LookUps.{LooksUpWithout}
-use Rattle.ic_book.specs.Mentioned.{DanglesWithout}
-use Rattle.ic_book.proofs.DoesLemmas.{deletes_with_id, deletes_no_id}
-use Rattle.ic_book.proofs.HeldLemmas.{at_some, found_by_id}
+use Rattle.ic_parts.specs.Book.{IsValidBook, ModelState, core_of}
+use Rattle.ic_changes.specs.LookUps.{LooksUpWithout}
+use Rattle.ic_parts.specs.Mentioned.{DanglesWithout}
+use Rattle.ic_parts.proofs.DoesLemmas.{deletes_with_id, deletes_no_id}
+use Rattle.ic_parts.proofs.HeldLemmas.{at_some, found_by_id}
 use Rattle.ic_book.proofs.model.Model.delete_sheet_by_sheet_id.Goals as goal
 
 pub returns-in_default-clause-does : goal.returns-in_default-clause-does

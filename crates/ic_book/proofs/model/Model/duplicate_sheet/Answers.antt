@@ -3,11 +3,11 @@ use Rattle.std.specs.Prelude.{is_none}
 use Rattle.ic_laws.specs.Name.{is_sheet_name}
 use Rattle.ic_machine.specs.subjects.Sheets.{copy_name}
 use Rattle.ic_sheets.specs.Sheet.{Sheet}
-use Rattle.ic_book.specs.Book.{IsValidBook, ModelState}
-use Rattle.ic_book.specs.Fields.{named_sheet_fields}
-use Rattle.ic_book.specs.SheetNames.{IsNumbered}
+use Rattle.ic_parts.specs.Book.{IsValidBook, ModelState}
+use Rattle.ic_parts.specs.Fields.{named_sheet_fields}
+use Rattle.ic_parts.specs.SheetNames.{IsNumbered}
 use Rattle.ic_book.proofs.CopiedModel.{none_there, source_there}
-use Rattle.ic_book.proofs.CopiedSteps.{copy_binds, copy_done, copy_good, copy_lacks, copy_means, copy_numbered, copy_used_up, copy_wants}
+use Rattle.ic_changes.proofs.CopiedSteps.{copy_binds, copy_done, copy_good, copy_lacks, copy_means, copy_numbered, copy_used_up, copy_wants}
 use Rattle.ic_book.proofs.model.Model.duplicate_sheet.Goals as goal
 
 pub returns-then-index-len-clause-does : goal.returns-then-index-len-clause-does

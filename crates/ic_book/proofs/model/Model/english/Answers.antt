@@ -2,9 +2,9 @@ use Rattle.std.proofs.Common.{◌≡◌, Some, ap, codes, subst, sym, ◌∙◌}
 use Rattle.ic_tables.specs.Tables.{HasGoodFormats, language_of}
 use Rattle.std.specs.Prelude.{pos}
 use Rattle.ic_laws.specs.Notations.{english}
-use Rattle.ic_book.specs.Book.{ModelState, notations_in}
-use Rattle.ic_book.proofs.HeldLemmas.{language_is}
-use Rattle.ic_book.proofs.InForceLemmas.{shown_by}
+use Rattle.ic_parts.specs.Book.{ModelState, notations_in}
+use Rattle.ic_parts.proofs.HeldLemmas.{language_is}
+use Rattle.ic_parts.proofs.InForceLemmas.{shown_by}
 use Rattle.ic_book.proofs.model.Model.english.Goals as goal
 
 pub new-requires-clause-language : goal.new-requires-clause-language

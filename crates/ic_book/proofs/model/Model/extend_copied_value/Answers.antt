@@ -1,8 +1,8 @@
 use Rattle.std.proofs.Common.{◌≡◌, ◌∙◌, Some, ap, chars, option_map, subst, sym}
 use Rattle.ic_tables.specs.Tables.{locale_of}
-use Rattle.ic_book.specs.Book.{IsValidBook, ModelState}
-use Rattle.ic_book.proofs.ExtendLemmas.{copies_formula, copies_refused, copies_text, text_wants}
-use Rattle.ic_book.proofs.WholeWritten.{language_there}
+use Rattle.ic_parts.specs.Book.{IsValidBook, ModelState}
+use Rattle.ic_parts.proofs.ExtendLemmas.{copies_formula, copies_refused, copies_text, text_wants}
+use Rattle.ic_parts.proofs.WholeWritten.{language_there}
 use Rattle.ic_book.proofs.model.Model.extend_copied_value.Goals as goal
 
 pub returns-in_err-id : goal.returns-in_err-id

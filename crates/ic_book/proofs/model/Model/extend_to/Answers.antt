@@ -8,14 +8,14 @@ use Rattle.ic_machine.specs.subjects.Extending.{extend_step}
 use Rattle.ic_sheets.proofs.CellLemmas.{stored_pair}
 use Rattle.ic_sheets.specs.Sheet.{cells_of, sheet_of}
 use Rattle.ic_tables.specs.Tables.{language_of, locale_of}
-use Rattle.ic_book.specs.Book.{IsValidBook, ModelState, core_of, notations_in}
-use Rattle.ic_book.specs.Does.{Wanted}
-use Rattle.ic_book.specs.Extended.{value_text}
-use Rattle.ic_book.specs.Fields.{string_only}
-use Rattle.ic_book.specs.Whole.{whole_of}
-use Rattle.ic_book.proofs.ExtendLemmas.{extended_told, extends_formula, extends_value, places_at}
-use Rattle.ic_book.proofs.StyleLemmas.{passes_memory, passes_missing}
-use Rattle.ic_book.proofs.WholeWritten.{language_there, locale_there}
+use Rattle.ic_parts.specs.Book.{IsValidBook, ModelState, core_of, notations_in}
+use Rattle.ic_parts.specs.Does.{Wanted}
+use Rattle.ic_parts.specs.Extended.{value_text}
+use Rattle.ic_parts.specs.Fields.{string_only}
+use Rattle.ic_parts.specs.Whole.{whole_of}
+use Rattle.ic_parts.proofs.ExtendLemmas.{extended_told, extends_formula, extends_value, places_at}
+use Rattle.ic_parts.proofs.StyleLemmas.{passes_memory, passes_missing}
+use Rattle.ic_parts.proofs.WholeWritten.{language_there, locale_there}
 use Rattle.ic_book.proofs.model.Model.extend_to.Goals as goal
 
 pub returns-in_err-worksheet : goal.returns-in_err-worksheet

@@ -4,8 +4,9 @@ use Rattle.ic_laws.specs.CoreBook.{CellPlace, formula_at}
 use Rattle.ic_laws.specs.CoreStep.{formula_of}
 use Rattle.ic_sheets.proofs.CellLemmas.{stored_pair}
 use Rattle.ic_sheets.specs.Sheet.{cells_of}
-use Rattle.ic_book.specs.Book.{ModelState, core_of}
-use Rattle.ic_book.proofs.HeldLemmas.{at_index, formula_of_is, places_of}
+use Rattle.ic_parts.specs.Book.{ModelState, core_of}
+use Rattle.ic_parts.proofs.HeldLemmas.{at_index}
+use Rattle.ic_book.proofs.HeldLemmas.{formula_of_is, places_of}
 use Rattle.ic_book.proofs.model.Model.formula_at.Goals as goal
 
 pub formula_at-requires : goal.formula_at-requires

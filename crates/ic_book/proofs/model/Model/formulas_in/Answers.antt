@@ -1,7 +1,8 @@
 use Rattle.std.proofs.Common.{Some, ap, option_map, slice_get, sym, ◌∙◌}
 use Rattle.ic_laws.specs.CoreBook.{Sheet as CoreSheet}
-use Rattle.ic_book.specs.Book.{ModelState, core_of}
-use Rattle.ic_book.proofs.HeldLemmas.{at_index, cells_are, places_of}
+use Rattle.ic_parts.specs.Book.{ModelState, core_of}
+use Rattle.ic_parts.proofs.HeldLemmas.{at_index}
+use Rattle.ic_book.proofs.HeldLemmas.{cells_are, places_of}
 use Rattle.ic_book.proofs.model.Model.formulas_in.Goals as goal
 
 pub formulas_of-requires : goal.formulas_of-requires

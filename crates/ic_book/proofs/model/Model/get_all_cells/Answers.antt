@@ -6,11 +6,11 @@ use Rattle.ic_machine.specs.subjects.Reading.{all_cells_step, sheet_places}
 use Rattle.ic_laws.specs.CoreBook.{last_id}
 use Rattle.ic_sheets.specs.Sheet.{sheet_of}
 use Rattle.ic_sheets.specs.declared.sheet.Sheet.{Sheet as HeldSheet}
-use Rattle.ic_book.specs.Book.{IsValidBook, ModelState}
-use Rattle.ic_book.specs.Cells.{places_from}
-use Rattle.ic_book.specs.Whole.{whole_of, whole_sheet}
-use Rattle.ic_book.proofs.CellReads.{places_told}
-use Rattle.ic_book.proofs.SettingLemmas.{lacks_memory, tells}
+use Rattle.ic_parts.specs.Book.{IsValidBook, ModelState}
+use Rattle.ic_parts.specs.Cells.{places_from}
+use Rattle.ic_parts.specs.Whole.{whole_of, whole_sheet}
+use Rattle.ic_parts.proofs.CellReads.{places_told}
+use Rattle.ic_parts.proofs.SettingLemmas.{lacks_memory, tells}
 use Rattle.ic_book.proofs.model.Model.get_all_cells.Goals as goal
 
 pub all_places-requires : goal.all_places-requires

@@ -3,9 +3,9 @@ use Rattle.std.specs.Option.{option_copied, option_map_or}
 use Rattle.ic_tables.specs.Tables.{language_of}
 use Rattle.ic_cells.specs.Cell.{value_of}
 use Rattle.ic_cells.specs.declared.value.CellValue.TheVariants as values
-use Rattle.ic_book.specs.Book.{ModelState}
+use Rattle.ic_parts.specs.Book.{ModelState}
 use Rattle.ic_sheets.proofs.CellLemmas.{stored_pair}
-use Rattle.ic_book.proofs.CellReads.{found_there, lacks_value, tells_value, wants_value}
+use Rattle.ic_parts.proofs.CellReads.{found_there, lacks_value, tells_value, wants_value}
 use Rattle.ic_book.proofs.model.Model.get_cell_value_by_index.Goals as goal
 
 pub returns : goal.returns

@@ -2,10 +2,10 @@ use Rattle.std.proofs.Common.{subst, w32}
 use Rattle.std.proofs.lemmas.Int.{to_z-of_z}
 use Rattle.ic_machine.specs.Fields.{optional_style_fields}
 use Rattle.ic_machine.specs.subjects.Styles.{column_style_step}
-use Rattle.ic_book.specs.Does.{DoesStep, Wanted}
-use Rattle.ic_book.specs.Styled.{line_style_step}
-use Rattle.ic_book.specs.Whole.{whole_of}
-use Rattle.ic_book.specs.declared.styled.Line.TheVariants as lines
+use Rattle.ic_parts.specs.Does.{DoesStep, Wanted}
+use Rattle.ic_parts.specs.Styled.{line_style_step}
+use Rattle.ic_parts.specs.Whole.{whole_of}
+use Rattle.ic_parts.specs.declared.styled.Line.TheVariants as lines
 use Rattle.ic_book.proofs.model.Model.get_column_style.Goals as goal
 
 pub returns : goal.returns

@@ -1,4 +1,4 @@
-use Rattle.ic_book.proofs.DoesLemmas.{lists}
+use Rattle.ic_parts.proofs.DoesLemmas.{lists}
 use Rattle.ic_book.proofs.model.Model.get_defined_name_list.Goals as goal
 
 pub returns : goal.returns

@@ -3,11 +3,11 @@ use Rattle.ic_tables.specs.Tables.{locale_of}
 use Rattle.ic_machine.specs.Fields.{fields_of_settings}
 use Rattle.ic_machine.specs.InForce.{by_notation, in_force}
 use Rattle.ic_machine.specs.subjects.Notation.{settings_fields, settings_step}
-use Rattle.ic_book.specs.Book.{IsValidBook, ModelState}
-use Rattle.ic_book.specs.Whole.{whole_of}
-use Rattle.ic_book.proofs.ExtendLemmas.{settings_told}
-use Rattle.ic_book.proofs.SettingLemmas.{lacks_memory, tells}
-use Rattle.ic_book.proofs.WholeWritten.{language_there}
+use Rattle.ic_parts.specs.Book.{IsValidBook, ModelState}
+use Rattle.ic_parts.specs.Whole.{whole_of}
+use Rattle.ic_parts.proofs.ExtendLemmas.{settings_told}
+use Rattle.ic_parts.proofs.SettingLemmas.{lacks_memory, tells}
+use Rattle.ic_parts.proofs.WholeWritten.{language_there}
 use Rattle.ic_book.proofs.model.Model.get_fmt_settings.Goals as goal
 
 pub returns : goal.returns

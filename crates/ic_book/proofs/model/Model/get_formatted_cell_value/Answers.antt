@@ -4,14 +4,14 @@ use Rattle.ic_machine.specs.Reply.{text_field}
 use Rattle.ic_machine.specs.subjects.Reading.{formatted_step}
 use Rattle.ic_sheets.proofs.CellLemmas.{stored_pair}
 use Rattle.ic_sheets.specs.Sheet.{sheet_of}
-use Rattle.ic_book.specs.Book.{IsValidBook, ModelState}
-use Rattle.ic_book.specs.Does.{Wanted}
-use Rattle.ic_book.specs.Fields.{string_only}
-use Rattle.ic_book.specs.Shown.{content_formatted}
-use Rattle.ic_book.specs.Whole.{whole_of}
-use Rattle.ic_book.proofs.ReadLemmas.{sheet_told}
-use Rattle.ic_book.proofs.ShownLemmas.{formatted_told}
-use Rattle.ic_book.proofs.StyleLemmas.{passes_memory, passes_missing}
+use Rattle.ic_parts.specs.Book.{IsValidBook, ModelState}
+use Rattle.ic_parts.specs.Does.{Wanted}
+use Rattle.ic_parts.specs.Fields.{string_only}
+use Rattle.ic_parts.specs.Shown.{content_formatted}
+use Rattle.ic_parts.specs.Whole.{whole_of}
+use Rattle.ic_parts.proofs.ReadLemmas.{sheet_told}
+use Rattle.ic_parts.proofs.ShownLemmas.{formatted_told}
+use Rattle.ic_parts.proofs.StyleLemmas.{passes_memory, passes_missing}
 use Rattle.ic_book.proofs.model.Model.get_formatted_cell_value.Goals as goal
 
 pub returns-in_err-worksheet : goal.returns-in_err-worksheet

@@ -1,7 +1,7 @@
 use Rattle.std.proofs.Common.{rules}
 use Rattle.ic_machine.specs.Reply.{position_field}
 use Rattle.ic_machine.specs.subjects.Tabs.{frozen_columns_step}
-use Rattle.ic_book.proofs.PartUses.{tab_read}
+use Rattle.ic_parts.proofs.PartUses.{tab_read}
 use Rattle.ic_book.proofs.model.Model.get_frozen_columns_count.Goals as goal
 
 pub returns : goal.returns

@@ -1,9 +1,9 @@
 use Rattle.std.proofs.Common.{ap, subst, ◌∙◌}
 use Rattle.ic_machine.specs.Reply.{text_field}
 use Rattle.ic_machine.specs.subjects.Notation.{get_language_step}
-use Rattle.ic_book.specs.Book.{IsValidBook, ModelState}
-use Rattle.ic_book.specs.Fields.{string_only}
-use Rattle.ic_book.proofs.SettingLemmas.{lacks_memory, tells}
+use Rattle.ic_parts.specs.Book.{IsValidBook, ModelState}
+use Rattle.ic_parts.specs.Fields.{string_only}
+use Rattle.ic_parts.proofs.SettingLemmas.{lacks_memory, tells}
 use Rattle.ic_book.proofs.model.Model.get_language.Goals as goal
 
 pub returns : goal.returns

@@ -4,14 +4,14 @@ use Rattle.ic_machine.specs.Reply.{text_field}
 use Rattle.ic_machine.specs.subjects.Reading.{content_step}
 use Rattle.ic_sheets.proofs.CellLemmas.{stored_pair}
 use Rattle.ic_sheets.specs.Sheet.{sheet_of}
-use Rattle.ic_book.specs.Book.{IsValidBook, ModelState}
-use Rattle.ic_book.specs.Does.{Wanted}
-use Rattle.ic_book.specs.Fields.{string_only}
-use Rattle.ic_book.specs.Shown.{content_shown}
-use Rattle.ic_book.specs.Whole.{whole_of}
-use Rattle.ic_book.proofs.ReadLemmas.{sheet_told}
-use Rattle.ic_book.proofs.ShownLemmas.{content_told}
-use Rattle.ic_book.proofs.StyleLemmas.{passes_memory, passes_missing}
+use Rattle.ic_parts.specs.Book.{IsValidBook, ModelState}
+use Rattle.ic_parts.specs.Does.{Wanted}
+use Rattle.ic_parts.specs.Fields.{string_only}
+use Rattle.ic_parts.specs.Shown.{content_shown}
+use Rattle.ic_parts.specs.Whole.{whole_of}
+use Rattle.ic_parts.proofs.ReadLemmas.{sheet_told}
+use Rattle.ic_parts.proofs.ShownLemmas.{content_told}
+use Rattle.ic_parts.proofs.StyleLemmas.{passes_memory, passes_missing}
 use Rattle.ic_book.proofs.model.Model.get_localized_cell_content.Goals as goal
 
 pub returns-in_err-worksheet : goal.returns-in_err-worksheet

@@ -1,10 +1,11 @@
 use Rattle.std.proofs.Common.{ap, ap₂, ◌∙◌, subst, All, IfSome, ◌<◌}
 use Rattle.std.specs.Prelude.{max}
 use Rattle.ic_laws.specs.CoreBook.{fresh_id, used_ids}
-use Rattle.ic_book.specs.Book.{IsValidBook, ModelState, core_of}
-use Rattle.ic_book.proofs.DoesLemmas.{tells_id}
-use Rattle.ic_book.proofs.HeldLemmas.{greatest_is, next_is, next_of}
-use Rattle.ic_book.proofs.StartLemmas.{above_all}
+use Rattle.ic_parts.specs.Book.{IsValidBook, ModelState, core_of}
+use Rattle.ic_parts.proofs.DoesLemmas.{tells_id}
+use Rattle.ic_book.proofs.HeldLemmas.{greatest_is}
+use Rattle.ic_parts.proofs.HeldLemmas.{next_is, next_of}
+use Rattle.ic_parts.proofs.StartLemmas.{above_all}
 use Rattle.ic_book.proofs.model.Model.get_new_sheet_id.Goals as goal
 
 pub returns-clause-fresh : goal.returns-clause-fresh

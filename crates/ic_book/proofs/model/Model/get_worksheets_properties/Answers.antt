@@ -1,10 +1,10 @@
 use Rattle.std.proofs.Common.{List, ap, flat_map, subst, ◌∙◌}
 use Rattle.ic_machine.specs.subjects.Sheets.{properties_step, property_fields}
 use Rattle.ic_sheets.specs.declared.sheet.Sheet.{Sheet as HeldSheet}
-use Rattle.ic_book.specs.Book.{IsValidBook, ModelState}
-use Rattle.ic_book.specs.Fields.{sheets_fields, told_sheet}
-use Rattle.ic_book.specs.Whole.{whole_of}
-use Rattle.ic_book.proofs.SettingLemmas.{lacks_memory, sheets_told, tells}
+use Rattle.ic_parts.specs.Book.{IsValidBook, ModelState}
+use Rattle.ic_parts.specs.Fields.{sheets_fields, told_sheet}
+use Rattle.ic_parts.specs.Whole.{whole_of}
+use Rattle.ic_parts.proofs.SettingLemmas.{lacks_memory, sheets_told, tells}
 use Rattle.ic_book.proofs.model.Model.get_worksheets_properties.Goals as goal
 
 pub returns : goal.returns

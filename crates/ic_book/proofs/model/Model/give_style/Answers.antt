@@ -3,16 +3,17 @@ use Rattle.std.specs.List.{slice_get}
 use Rattle.ic_cells.specs.declared.style.Style.{Style}
 use Rattle.ic_sheets.proofs.RewritingLemmas.{sheet_there}
 use Rattle.ic_sheets.specs.Sheet.{sheet_of}
-use Rattle.ic_book.specs.Book.{IsValidBook, ModelState}
-use Rattle.ic_book.specs.Does.{DoesStep, Wanted}
-use Rattle.ic_book.specs.Fields.{no_fields}
+use Rattle.ic_parts.specs.Book.{IsValidBook, ModelState}
+use Rattle.ic_parts.specs.Does.{DoesStep, Wanted}
+use Rattle.ic_parts.specs.Fields.{no_fields}
 use Rattle.ic_book.specs.Inside.{held_state, with_sheets, with_styles}
-use Rattle.ic_book.specs.Styled.{StylesLine, set_line_step, with_line_style}
-use Rattle.ic_book.specs.Whole.{whole_of}
-use Rattle.ic_book.proofs.HeldLemmas.{past_of, within_of}
+use Rattle.ic_parts.specs.Styled.{StylesLine, set_line_step, with_line_style}
+use Rattle.ic_parts.specs.Whole.{whole_of}
+use Rattle.ic_parts.proofs.HeldLemmas.{past_of, within_of}
 use Rattle.ic_book.proofs.PartLemmas.{not_held}
-use Rattle.ic_book.proofs.StyleSetLemmas.{lacks_line_sheet, line_sheet, refuses_line, same_look_ups, state_again, state_held_again, style_taken_back, styled_held, styled_state, styles_line, wants_line, wants_line_memory}
-use Rattle.ic_book.proofs.NameIndexLemmas.{indexed_updated}
+use Rattle.ic_parts.proofs.StyleSetLemmas.{lacks_line_sheet, refuses_line, style_taken_back, styles_line, wants_line, wants_line_memory}
+use Rattle.ic_book.proofs.StyleSetLemmas.{line_sheet, same_look_ups, state_again, state_held_again, styled_held, styled_state}
+use Rattle.ic_parts.proofs.NameIndexLemmas.{indexed_updated}
 use Rattle.ic_book.proofs.model.Model.give_style.Goals as goal
 
 pub returns-then-sheet-len-clause-does : goal.returns-then-sheet-len-clause-does

@@ -2,8 +2,8 @@ use Rattle.std.proofs.Common.{ap, option_map, sym, ◌∙◌}
 use Rattle.std.proofs.lemmas.Option.{slice_get-map}
 use Rattle.std.specs.List.{slice_get}
 use Rattle.ic_sheets.specs.Sheet.{Sheet, sheet_of}
-use Rattle.ic_book.specs.Book.{ModelState}
-use Rattle.ic_book.proofs.HeldLemmas.{at_index}
+use Rattle.ic_parts.specs.Book.{ModelState}
+use Rattle.ic_parts.proofs.HeldLemmas.{at_index}
 use Rattle.ic_book.proofs.model.Model.id_at.Goals as goal
 
 pub returns : goal.returns

@@ -6,11 +6,11 @@ use Rattle.ic_laws.specs.Name.{agrees}
 use Rattle.ic_machine.specs.Refusal.{IdLive, IdsUsedUp, OutOfRange, SheetExists, first_refusal}
 use Rattle.ic_machine.specs.subjects.Sheets.{chosen_id, insert_causes, is_live}
 use Rattle.ic_sheets.specs.Sheet.{sheet_of}
-use Rattle.ic_book.specs.Book.{ModelState, core_of, whole_of}
+use Rattle.ic_parts.specs.Book.{ModelState, core_of, whole_of}
 use Rattle.ic_book.specs.Inside.{held}
-use Rattle.ic_book.specs.Refused.{TellsOnly}
-use Rattle.ic_book.proofs.HeldLemmas.{seen_names}
-use Rattle.ic_book.proofs.InsertedDoes.{id_told, past_told, taken_told}
+use Rattle.ic_parts.specs.Refused.{TellsOnly}
+use Rattle.ic_parts.proofs.HeldLemmas.{seen_names}
+use Rattle.ic_parts.proofs.InsertedDoes.{id_told, past_told, taken_told}
 use Rattle.ic_book.proofs.model.Model.id_to_insert.Goals as goal
 
 pub returns-then-is_taken-clause-refused : goal.returns-then-is_taken-clause-refused

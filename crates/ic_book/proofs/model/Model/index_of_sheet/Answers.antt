@@ -1,7 +1,7 @@
 use Rattle.std.proofs.Common.{chars, ap, sym, ◌∙◌}
 use Rattle.ic_laws.specs.CoreStep.{index_of_name}
-use Rattle.ic_book.specs.Book.{ModelState, core_of}
-use Rattle.ic_book.proofs.HeldLemmas.{found_by_name}
+use Rattle.ic_parts.specs.Book.{ModelState, core_of}
+use Rattle.ic_parts.proofs.HeldLemmas.{found_by_name}
 use Rattle.ic_book.proofs.model.Model.index_of_sheet.Goals as goal
 
 pub returns-in_err-index : goal.returns-in_err-index

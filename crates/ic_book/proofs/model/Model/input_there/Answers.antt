@@ -1,10 +1,10 @@
 use Rattle.std.proofs.Common.{◌≡◌, IfOk, chars, option_map, subst, sym, ap, ◌∙◌}
 use Rattle.std.proofs.lemmas.Result.{IfOk-weaker}
-use Rattle.ic_book.specs.Book.{IsValidBook, ModelState}
-use Rattle.ic_book.proofs.OwnTextLemmas.{input_formula, value_told}
+use Rattle.ic_parts.specs.Book.{IsValidBook, ModelState}
+use Rattle.ic_changes.proofs.OwnTextLemmas.{input_formula, value_told}
 use Rattle.ic_laws.specs.CoreBook.{CellPlace}
 use Rattle.ic_sheets.proofs.CellLemmas.{stored_pair}
-use Rattle.ic_book.specs.Translated.{formula_own}
+use Rattle.ic_parts.specs.Translated.{formula_own}
 use Rattle.ic_book.proofs.model.Model.input_there.Goals as goal
 
 pub returns-in-Some : goal.returns-in-Some

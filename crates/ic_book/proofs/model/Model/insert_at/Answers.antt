@@ -4,15 +4,15 @@ use Rattle.ic_laws.specs.Changes.{Change, sheet_named}
 use Rattle.ic_definitions.specs.Named.{definitions_scene}
 use Rattle.ic_machine.specs.Refusal.{first_refusal}
 use Rattle.ic_machine.specs.subjects.Sheets.{insert_causes}
-use Rattle.ic_book.specs.Book.{ModelState, whole_of}
-use Rattle.ic_book.specs.Change.{book_changed_by, with_inserted_sheet}
+use Rattle.ic_parts.specs.Book.{ModelState, whole_of}
+use Rattle.ic_parts.specs.Change.{book_changed_by, with_inserted_sheet}
 use Rattle.ic_book.specs.Inside.{held, held_state, with_contents}
-use Rattle.ic_book.specs.LookUps.{LooksUpInserted, looks_up_in}
-use Rattle.ic_book.specs.Mentioned.{BindsInserted}
+use Rattle.ic_changes.specs.LookUps.{LooksUpInserted, looks_up_in}
+use Rattle.ic_parts.specs.Mentioned.{BindsInserted}
 use Rattle.ic_book.proofs.HeldLemmas.{same_naming}
 use Rattle.ic_book.proofs.InsertedHeld.{binds_inserted, inserted, inserted_held, put_free, put_fresh, put_within, says_id}
-use Rattle.ic_book.proofs.LookUpLemmas.{looks_up_is}
-use Rattle.ic_book.proofs.SparedBodies.{naming_bodies}
+use Rattle.ic_changes.proofs.LookUpLemmas.{looks_up_is}
+use Rattle.ic_changes.proofs.SparedBodies.{naming_bodies}
 use Rattle.ic_book.proofs.model.Model.insert_at.Goals as goal
 
 pub prepare_dangling-requires : goal.prepare_dangling-requires

@@ -1,5 +1,5 @@
 use Rattle.std.proofs.Common.{arith, chars, rules}
-use Rattle.ic_book.proofs.InsertedDoes.{accepts_chosen, insert_refused, insert_wanted, inserts}
+use Rattle.ic_parts.proofs.InsertedDoes.{accepts_chosen, insert_refused, insert_wanted, inserts}
 use Rattle.ic_book.proofs.InsertedHeld.{says_id}
 use Rattle.ic_book.proofs.model.Model.insert_sheet.Goals as goal
 

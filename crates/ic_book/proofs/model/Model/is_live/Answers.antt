@@ -3,8 +3,8 @@ use Rattle.std.proofs.lemmas.Bool.{ne_eqb}
 use Rattle.std.specs.List.{list_any}
 use Rattle.std.specs.Prelude.{nat_eq}
 use Rattle.ic_laws.specs.CoreBook.{ids_of}
-use Rattle.ic_book.specs.Book.{ModelState, core_of}
-use Rattle.ic_book.proofs.HeldLemmas.{seen_ids}
+use Rattle.ic_parts.specs.Book.{ModelState, core_of}
+use Rattle.ic_parts.proofs.HeldLemmas.{seen_ids}
 use Rattle.ic_book.proofs.model.Model.is_live.Goals as goal
 
 pub returns-else-id-eq0 : goal.returns-else-id-eq0

@@ -1,7 +1,7 @@
 use Rattle.std.proofs.Common.{rules}
 use Rattle.ic_machine.specs.Reply.{bool_field}
 use Rattle.ic_machine.specs.subjects.Layout.{row_hidden_step}
-use Rattle.ic_book.proofs.PartUses.{grid_read}
+use Rattle.ic_parts.proofs.PartUses.{grid_read}
 use Rattle.ic_book.proofs.model.Model.is_row_hidden.Goals as goal
 
 pub returns : goal.returns

@@ -1,6 +1,6 @@
 use Rattle.std.proofs.Common.{chars, not, subst, sym, ap, ◌∙◌}
-use Rattle.ic_book.specs.Book.{IsValidBook, ModelState}
-use Rattle.ic_book.proofs.TypedLemmas.{plain_text}
+use Rattle.ic_parts.specs.Book.{IsValidBook, ModelState}
+use Rattle.ic_parts.proofs.TypedLemmas.{plain_text}
 use Rattle.ic_book.proofs.model.Model.is_typed_text.Goals as goal
 
 pub returns : goal.returns

@@ -1,5 +1,5 @@
 use Rattle.std.proofs.Common.{chars}
-use Rattle.ic_book.proofs.DoesLemmas.{checks}
+use Rattle.ic_parts.proofs.DoesLemmas.{checks}
 use Rattle.ic_book.proofs.model.Model.is_valid_defined_name.Goals as goal
 
 pub returns : goal.returns

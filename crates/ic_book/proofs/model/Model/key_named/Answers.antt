@@ -3,8 +3,8 @@ use Rattle.std.specs.List.{list_any}
 use Rattle.ic_laws.specs.CoreBook.{Definition}
 use Rattle.ic_laws.specs.CoreStep.{is_named}
 use Rattle.ic_definitions.proofs.NamesFacts.{position_any}
-use Rattle.ic_book.specs.Book.{ModelState, core_of}
-use Rattle.ic_book.proofs.MentioningLemmas.{key_is}
+use Rattle.ic_parts.specs.Book.{ModelState, core_of}
+use Rattle.ic_changes.proofs.MentioningLemmas.{key_is}
 use Rattle.ic_book.proofs.model.Model.key_named.Goals as goal
 
 pub returns-in_err-index-clause-found : goal.returns-in_err-index-clause-found

@@ -1,6 +1,6 @@
 use Rattle.std.proofs.Common.{List, ℕ, ap, ap₂, ◌∙◌, ◌++◌}
 use Rattle.std.specs.Str.{chars}
-use Rattle.ic_book.specs.Definitions.{Listed}
+use Rattle.ic_parts.specs.Definitions.{Listed}
 use Rattle.ic_book.proofs.model.Model.listed.Goals as goal
 
 pub returns : goal.returns

@@ -1,8 +1,8 @@
 use Rattle.std.proofs.Common.{List, ap, flat_map, ◌∙◌}
 use Rattle.std.proofs.lemmas.List.{take_all}
 use Rattle.ic_laws.specs.CoreBook.{Definition}
-use Rattle.ic_book.specs.Book.{ModelState, core_of, notations_in}
-use Rattle.ic_book.specs.Definitions.{listed_definition}
+use Rattle.ic_parts.specs.Book.{ModelState, core_of, notations_in}
+use Rattle.ic_parts.specs.Definitions.{listed_definition}
 use Rattle.ic_book.proofs.model.Model.listed_definitions.Goals as goal
 
 pub returns-clause-list : goal.returns-clause-list

@@ -1,6 +1,6 @@
 use Rattle.std.proofs.Common.{◌≡◌, flat_map, map, take}
-use Rattle.ic_book.specs.Book.{core_of, notations_in}
-use Rattle.ic_book.specs.Definitions.{listed, listed_definition}
+use Rattle.ic_parts.specs.Book.{core_of, notations_in}
+use Rattle.ic_parts.specs.Definitions.{listed, listed_definition}
 use Rattle.ic_book.proofs.model.Model.listed_definitions.Given as goal
 
 -- what is listed so far

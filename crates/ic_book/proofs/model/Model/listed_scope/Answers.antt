@@ -1,6 +1,6 @@
 use Rattle.std.proofs.Common.{Option, Some, ℕ, ap, option_map, sym, ◌∙◌}
-use Rattle.ic_book.specs.Book.{ModelState, core_of}
-use Rattle.ic_book.proofs.NameLemmas.{listed_there}
+use Rattle.ic_parts.specs.Book.{ModelState, core_of}
+use Rattle.ic_parts.proofs.NameLemmas.{listed_there}
 use Rattle.ic_book.proofs.model.Model.listed_scope.Goals as goal
 
 pub returns-in_err-index-in-Some : goal.returns-in_err-index-in-Some

@@ -3,9 +3,9 @@ use Rattle.std.proofs.lemmas.Result.{IfOk-weaker}
 use Rattle.ic_tables.specs.Formats.{decimal_separator}
 use Rattle.ic_cells.specs.Cell.{value_of}
 use Rattle.ic_cells.specs.Value.{shown_text}
-use Rattle.ic_book.specs.Book.{ModelState}
-use Rattle.ic_book.specs.Shown.{localized}
-use Rattle.ic_book.proofs.ShownLemmas.{localized_is}
+use Rattle.ic_parts.specs.Book.{ModelState}
+use Rattle.ic_parts.specs.Shown.{localized}
+use Rattle.ic_parts.proofs.ShownLemmas.{localized_is}
 use Rattle.ic_book.proofs.model.Model.localized.Goals as goal
 
 pub returns : goal.returns

@@ -3,11 +3,11 @@ use Rattle.std.specs.List.{join_by, range_with_len}
 use Rattle.std.proofs.lemmas.Str.{chars-nil}
 use Rattle.ic_laws.specs.Character.{line_feed}
 use Rattle.ic_sheets.specs.Sheet.{sheet_of}
-use Rattle.ic_book.specs.Book.{IsValidBook, ModelState}
-use Rattle.ic_book.specs.Markup.{last_of, row_shown}
-use Rattle.ic_book.proofs.CellReads.{same_keys}
-use Rattle.ic_book.proofs.GridLemmas.{its_grid}
-use Rattle.ic_book.proofs.MarkupLemmas.{columns_within, rows_within, table_told}
+use Rattle.ic_parts.specs.Book.{IsValidBook, ModelState}
+use Rattle.ic_parts.specs.Markup.{last_of, row_shown}
+use Rattle.ic_parts.proofs.CellReads.{same_keys}
+use Rattle.ic_parts.proofs.GridLemmas.{its_grid}
+use Rattle.ic_parts.proofs.MarkupLemmas.{columns_within, rows_within, table_told}
 use Rattle.ic_book.proofs.model.Model.markup.Goals as goal
 
 pub push_rows-requires-clause-rows : goal.push_rows-requires-clause-rows

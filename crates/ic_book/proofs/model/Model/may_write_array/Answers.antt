@@ -1,8 +1,8 @@
 use Rattle.std.proofs.Common.{ap, subst, sym, ◌∙◌}
 use Rattle.ic_machine.specs.Refusal.{InvalidSheet}
-use Rattle.ic_book.specs.Arrays.{array_refusal, array_refusal_in}
-use Rattle.ic_book.specs.Refused.{TellsOnly, refusal_of}
-use Rattle.ic_book.proofs.CellReads.{of_error}
+use Rattle.ic_parts.specs.Arrays.{array_refusal, array_refusal_in}
+use Rattle.ic_parts.specs.Refused.{TellsOnly, refusal_of}
+use Rattle.ic_parts.proofs.CellReads.{of_error}
 use Rattle.ic_book.proofs.model.Model.may_write_array.Goals as goal
 
 pub returns-in_err-worksheet-clause-refused : goal.returns-in_err-worksheet-clause-refused

@@ -2,12 +2,13 @@ use Rattle.std.proofs.Common.{map, sym, ap, subst, ◌∙◌}
 use Rattle.ic_laws.specs.BookTrees.{IsMoved}
 use Rattle.ic_laws.specs.CoreStep.{moved}
 use Rattle.ic_sheets.specs.declared.sheet.Sheet.{Sheet as HeldSheet}
-use Rattle.ic_book.specs.Book.{ModelState, core_of}
-use Rattle.ic_book.specs.Change.{with_moved_sheet}
+use Rattle.ic_parts.specs.Book.{ModelState, core_of}
+use Rattle.ic_parts.specs.Change.{with_moved_sheet}
 use Rattle.ic_book.specs.Inside.{held}
-use Rattle.ic_book.proofs.BookLemmas.{core_of-moved, moved-map}
-use Rattle.ic_book.proofs.BookValid.{moved_valid}
-use Rattle.ic_book.proofs.HeldLemmas.{held_after, keeps_moved, move_accepts, put, there_is, within_of}
+use Rattle.ic_parts.proofs.BookLemmas.{core_of-moved, moved-map}
+use Rattle.ic_parts.proofs.BookValid.{moved_valid}
+use Rattle.ic_book.proofs.HeldLemmas.{held_after, keeps_moved, put}
+use Rattle.ic_parts.proofs.HeldLemmas.{move_accepts, there_is, within_of}
 use Rattle.ic_book.proofs.model.Model.move_at.Goals as goal
 
 pub invariant_of-self : goal.invariant_of-self

@@ -1,4 +1,4 @@
-use Rattle.ic_book.proofs.DoesLemmas.{moves}
+use Rattle.ic_parts.proofs.DoesLemmas.{moves}
 use Rattle.ic_book.proofs.model.Model.move_sheet.Goals as goal
 
 pub returns-clause-does : goal.returns-clause-does

@@ -3,9 +3,9 @@ use Rattle.ic_laws.specs.Scene.{same_key}
 use Rattle.ic_definitions.specs.Named.{key_in}
 use Rattle.ic_laws.specs.Name.{fold}
 use Rattle.std.specs.Prelude.{bytes_eq}
-use Rattle.ic_book.specs.Book.{ModelState}
+use Rattle.ic_parts.specs.Book.{ModelState}
 use Rattle.ic_definitions.proofs.FindingLemmas.{place_is}
-use Rattle.ic_book.proofs.NameIndexLemmas.{sheet_found}
+use Rattle.ic_parts.proofs.NameIndexLemmas.{sheet_found}
 use Rattle.ic_book.proofs.model.Model.name_index.Goals as goal
 
 pub returns-clause-sheets : goal.returns-clause-sheets

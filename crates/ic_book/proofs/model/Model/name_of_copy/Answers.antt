@@ -2,7 +2,7 @@ use Rattle.std.proofs.Common.{◌≡◌, ◌<◌, IfOk, Some, chars, length, str
 use Rattle.std.specs.List.{slice_get}
 use Rattle.ic_machine.specs.subjects.Sheets.{name_of_copy}
 use Rattle.ic_sheets.specs.Sheet.{Sheet}
-use Rattle.ic_book.specs.Book.{ModelState, whole_of}
+use Rattle.ic_parts.specs.Book.{ModelState, whole_of}
 use Rattle.ic_book.proofs.CopiedModel.{copy_named}
 use Rattle.ic_book.proofs.NewSheetLemmas.{few_sheets}
 use Rattle.ic_book.proofs.model.Model.name_of_copy.Goals as goal

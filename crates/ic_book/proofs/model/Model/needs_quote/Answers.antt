@@ -2,8 +2,8 @@ use Rattle.std.proofs.Common.{chars, sym, ap, ◌∙◌}
 use Rattle.ic_input.specs.Typed.{needs_quoting}
 use Rattle.ic_input.specs.declared.input.Typed.{Typed}
 use Rattle.ic_machine.specs.InForce.{typed_in}
-use Rattle.ic_book.specs.Book.{ModelState}
-use Rattle.ic_book.specs.Whole.{whole_of}
+use Rattle.ic_parts.specs.Book.{ModelState}
+use Rattle.ic_parts.specs.Whole.{whole_of}
 use Rattle.ic_book.proofs.InForceLemmas.{typed_is}
 use Rattle.ic_book.proofs.model.Model.needs_quote.Goals as goal
 

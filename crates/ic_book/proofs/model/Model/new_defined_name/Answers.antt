@@ -1,5 +1,5 @@
 use Rattle.std.proofs.Common.{chars}
-use Rattle.ic_book.proofs.DoesLemmas.{defines}
+use Rattle.ic_parts.proofs.DoesLemmas.{defines}
 use Rattle.ic_book.proofs.model.Model.new_defined_name.Goals as goal
 
 pub returns-clause-does : goal.returns-clause-does

@@ -1,7 +1,7 @@
 use Rattle.std.proofs.Common.{◌≡◌, ap, ◌∙◌, chars, string_bytes, subst, IfOk}
 use Rattle.ic_machine.specs.subjects.Sheets.{base_name, new_sheet_name}
-use Rattle.ic_book.specs.Book.{ModelState}
-use Rattle.ic_book.specs.Whole.{whole_of}
+use Rattle.ic_parts.specs.Book.{ModelState}
+use Rattle.ic_parts.specs.Whole.{whole_of}
 use Rattle.ic_book.proofs.NewSheetLemmas.{few_sheets, new_name_of}
 use Rattle.ic_book.proofs.model.Model.new_name.Goals as goal
 

@@ -2,11 +2,11 @@ use Rattle.std.proofs.Common.{◌≡◌, ℕ, List, chars, length, string_bytes,
 use Rattle.std.proofs.lemmas.List.{length-map}
 use Rattle.std.specs.Prelude.{is_none}
 use Rattle.ic_sheets.specs.Sheet.{sheet_of}
-use Rattle.ic_book.specs.Book.{IsValidBook, ModelState}
-use Rattle.ic_book.specs.Change.{book_changed_by, with_added_sheet}
-use Rattle.ic_book.specs.Fields.{named_sheet_fields}
-use Rattle.ic_book.specs.LookUps.{LooksUpAdded}
-use Rattle.ic_book.specs.Mentioned.{BindsAdded}
+use Rattle.ic_parts.specs.Book.{IsValidBook, ModelState}
+use Rattle.ic_parts.specs.Change.{book_changed_by, with_added_sheet}
+use Rattle.ic_parts.specs.Fields.{named_sheet_fields}
+use Rattle.ic_changes.specs.LookUps.{LooksUpAdded}
+use Rattle.ic_parts.specs.Mentioned.{BindsAdded}
 use Rattle.ic_book.proofs.NewSheetLemmas.{new_done, new_failed, new_numbered, new_used_up, new_wants}
 use Rattle.ic_book.proofs.model.Model.new_sheet.Goals as goal
 

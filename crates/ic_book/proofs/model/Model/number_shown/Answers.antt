@@ -2,10 +2,10 @@ use Rattle.std.proofs.Common.{None, Some, chars, option_map, string_bytes, sym, 
 use Rattle.std.proofs.lemmas.Result.{IfOk-weaker}
 use Rattle.ic_laws.specs.Amount.{amount_text}
 use Rattle.ic_machine.specs.InForce.{decimal_in}
-use Rattle.ic_book.specs.Book.{ModelState}
-use Rattle.ic_book.specs.Whole.{whole_of}
-use Rattle.ic_book.proofs.ShownLemmas.{decimal_is, number_shown_by}
-use Rattle.ic_book.proofs.WholeWritten.{language_there}
+use Rattle.ic_parts.specs.Book.{ModelState}
+use Rattle.ic_parts.specs.Whole.{whole_of}
+use Rattle.ic_parts.proofs.ShownLemmas.{decimal_is, number_shown_by}
+use Rattle.ic_parts.proofs.WholeWritten.{language_there}
 use Rattle.ic_book.proofs.model.Model.number_shown.Goals as goal
 
 pub returns-in-Some : goal.returns-in-Some

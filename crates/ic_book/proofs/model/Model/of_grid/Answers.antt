@@ -4,11 +4,11 @@ use Rattle.std.proofs.Common.{ap, option_map, ◌∙◌}
 use Rattle.std.specs.List.{slice_get}
 use Rattle.ic_machine.specs.Book.{on_grid}
 use Rattle.ic_sheets.specs.Sheet.{sheet_of}
-use Rattle.ic_book.specs.Book.{IsValidBook, ModelState}
-use Rattle.ic_book.specs.Does.{DoesStep, wants}
+use Rattle.ic_parts.specs.Book.{IsValidBook, ModelState}
+use Rattle.ic_parts.specs.Does.{DoesStep, wants}
 use Rattle.ic_book.specs.Inside.{held_state}
-use Rattle.ic_book.specs.Whole.{whole_of}
-use Rattle.ic_book.proofs.HeldLemmas.{at_index}
+use Rattle.ic_parts.specs.Whole.{whole_of}
+use Rattle.ic_parts.proofs.HeldLemmas.{at_index}
 use Rattle.ic_book.proofs.PartLemmas.{not_held, past_end}
 use Rattle.ic_book.proofs.GridPartLemmas.{grid_missing, grid_reads}
 use Rattle.ic_book.proofs.model.Model.of_grid.Goals as goal

@@ -3,14 +3,15 @@ use Rattle.std.specs.List.{slice_get}
 use Rattle.std.proofs.lemmas.Option.{slice_get-map}
 use Rattle.ic_machine.specs.Book.{on_grid}
 use Rattle.ic_sheets.specs.Sheet.{sheet_of}
-use Rattle.ic_book.specs.Book.{IsValidBook, ModelState}
-use Rattle.ic_book.specs.Does.{DoesStep, wants}
+use Rattle.ic_parts.specs.Book.{IsValidBook, ModelState}
+use Rattle.ic_parts.specs.Does.{DoesStep, wants}
 use Rattle.ic_book.specs.Inside.{held_state, with_sheets}
-use Rattle.ic_book.specs.Whole.{whole_of}
-use Rattle.ic_book.proofs.HeldLemmas.{past_of}
+use Rattle.ic_parts.specs.Whole.{whole_of}
+use Rattle.ic_parts.proofs.HeldLemmas.{past_of}
 use Rattle.ic_book.proofs.PartLemmas.{not_held}
-use Rattle.ic_book.proofs.GridPartLemmas.{grid_does, grid_held, grid_missing, grid_state, laid_held}
-use Rattle.ic_book.proofs.NameIndexLemmas.{indexed_updated}
+use Rattle.ic_book.proofs.GridPartLemmas.{grid_does, grid_held, grid_missing, grid_state}
+use Rattle.ic_parts.proofs.GridPartLemmas.{laid_held}
+use Rattle.ic_parts.proofs.NameIndexLemmas.{indexed_updated}
 use Rattle.ic_book.proofs.model.Model.on_grid.Goals as goal
 
 pub returns-then-sheet-len-clause-changes : goal.returns-then-sheet-len-clause-changes

@@ -3,13 +3,13 @@ use Rattle.std.specs.List.{slice_get}
 use Rattle.std.proofs.lemmas.Option.{slice_get-map}
 use Rattle.ic_machine.specs.Book.{on_tab}
 use Rattle.ic_sheets.specs.Sheet.{sheet_of}
-use Rattle.ic_book.specs.Book.{IsValidBook, ModelState}
-use Rattle.ic_book.specs.Does.{DoesStep, wants}
+use Rattle.ic_parts.specs.Book.{IsValidBook, ModelState}
+use Rattle.ic_parts.specs.Does.{DoesStep, wants}
 use Rattle.ic_book.specs.Inside.{held_state, with_sheets}
-use Rattle.ic_book.specs.Whole.{whole_of}
-use Rattle.ic_book.proofs.HeldLemmas.{past_of}
+use Rattle.ic_parts.specs.Whole.{whole_of}
+use Rattle.ic_parts.proofs.HeldLemmas.{past_of}
 use Rattle.ic_book.proofs.PartLemmas.{frozen_in, not_held, tab_does, tab_held, tab_missing, tab_state}
-use Rattle.ic_book.proofs.NameIndexLemmas.{indexed_updated}
+use Rattle.ic_parts.proofs.NameIndexLemmas.{indexed_updated}
 use Rattle.ic_book.proofs.model.Model.on_tab.Goals as goal
 
 pub returns-then-sheet-len-clause-changes : goal.returns-then-sheet-len-clause-changes

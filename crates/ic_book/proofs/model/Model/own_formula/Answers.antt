@@ -6,11 +6,11 @@ use Rattle.ic_laws.specs.FormulaReading.{cell_formula}
 use Rattle.ic_laws.specs.declared.tree.Formula.{Formula}
 use Rattle.ic_sheets.proofs.CellLemmas.{stored_pair}
 use Rattle.ic_sheets.specs.Sheet.{Sheet, sheet_of}
-use Rattle.ic_book.specs.Book.{ModelState, core_of, notations_in}
-use Rattle.ic_book.specs.Written.{written_formula}
-use Rattle.ic_book.specs.declared.own_text.OwnText.{OwnText}
-use Rattle.ic_book.specs.declared.own_text.OwnText.TheVariants as owns
-use Rattle.ic_book.proofs.HeldLemmas.{at_index}
+use Rattle.ic_parts.specs.Book.{ModelState, core_of, notations_in}
+use Rattle.ic_parts.specs.Written.{written_formula}
+use Rattle.ic_parts.specs.declared.own_text.OwnText.{OwnText}
+use Rattle.ic_parts.specs.declared.own_text.OwnText.TheVariants as owns
+use Rattle.ic_parts.proofs.HeldLemmas.{at_index}
 use Rattle.ic_book.proofs.model.Model.own_formula.Goals as goal
 
 pub returns : goal.returns

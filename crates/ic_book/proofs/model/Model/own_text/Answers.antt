@@ -4,8 +4,8 @@ use Rattle.std.specs.Str.{chars}
 use Rattle.std.proofs.lemmas.Result.{IfOk-weaker}
 use Rattle.ic_machine.specs.Book as machine
 use Rattle.ic_machine.specs.Translation.{in_notation}
-use Rattle.ic_book.specs.Book.{IsValidBook, ModelState, whole_of}
-use Rattle.ic_book.specs.Translated.{IsWrittenIn, shown_in}
+use Rattle.ic_parts.specs.Book.{IsValidBook, ModelState, whole_of}
+use Rattle.ic_parts.specs.Translated.{IsWrittenIn, shown_in}
 use Rattle.ic_laws.specs.Character.{equals}
 use Rattle.ic_laws.specs.CoreBook.{CellPlace}
 use Rattle.ic_sheets.proofs.CellLemmas.{stored_pair}

@@ -1,5 +1,5 @@
 use Rattle.std.proofs.Common.{chars}
-use Rattle.ic_book.proofs.ReferenceLemmas.{parse_is}
+use Rattle.ic_parts.proofs.ReferenceLemmas.{parse_is}
 use Rattle.ic_book.proofs.model.Model.parse_reference.Goals as goal
 
 pub returns : goal.returns

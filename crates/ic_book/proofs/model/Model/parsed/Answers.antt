@@ -5,9 +5,9 @@ use Rattle.ic_laws.specs.Scan.{past_run, run_of}
 use Rattle.ic_laws.proofs.RunLemmas.{ends_with_rest, run_before_rest}
 use Rattle.ic_machine.specs.Parsed.{is_no_bang, parsed_place}
 use Rattle.ic_sheets.specs.declared.sheet.Sheet.{Sheet as HeldSheet}
-use Rattle.ic_book.specs.Book.{ModelState, core_of}
-use Rattle.ic_book.specs.References.{parsed_of}
-use Rattle.ic_book.proofs.HeldLemmas.{found_by_name}
+use Rattle.ic_parts.specs.Book.{ModelState, core_of}
+use Rattle.ic_parts.specs.References.{parsed_of}
+use Rattle.ic_parts.proofs.HeldLemmas.{found_by_name}
 use Rattle.ic_book.proofs.model.Model.parsed.Goals as goal
 
 pub front_of-requires : goal.front_of-requires

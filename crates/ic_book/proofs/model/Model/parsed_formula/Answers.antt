@@ -3,8 +3,9 @@ use Rattle.std.specs.List.{slice_get}
 use Rattle.ic_laws.specs.Notations.{AreNotations}
 use Rattle.ic_laws.specs.ValidCore.{IsPooled}
 use Rattle.ic_sheets.specs.Sheet.{Sheet}
-use Rattle.ic_book.specs.Book.{ModelState, notations_in, scene_in}
-use Rattle.ic_book.proofs.HeldLemmas.{at_index, formula_in_pool, notations, pooled_of}
+use Rattle.ic_parts.specs.Book.{ModelState, notations_in, scene_in}
+use Rattle.ic_parts.proofs.HeldLemmas.{at_index}
+use Rattle.ic_book.proofs.HeldLemmas.{formula_in_pool, notations, pooled_of}
 use Rattle.ic_book.proofs.model.Model.parsed_formula.Goals as goal
 
 pub returns-in_err-worksheet-clause-notations : goal.returns-in_err-worksheet-clause-notations

@@ -1,10 +1,10 @@
 use Rattle.std.proofs.Common.{◌++◌, ◌∙◌, ap, arith, chars, refl, string_bytes, subst}
 use Rattle.std.proofs.lemmas.Result.{on_ok_weaker}
 use Rattle.ic_sheets.specs.Sheet.{sheet_of}
-use Rattle.ic_book.specs.Book.{IsValidBook, ModelState}
-use Rattle.ic_book.specs.Markup.{IsBlankRow}
-use Rattle.ic_book.proofs.BlankRows.{behind_blank, blank_shown}
-use Rattle.ic_book.proofs.MarkupLemmas.{row_small}
+use Rattle.ic_parts.specs.Book.{IsValidBook, ModelState}
+use Rattle.ic_parts.specs.Markup.{IsBlankRow}
+use Rattle.ic_parts.proofs.BlankRows.{behind_blank, blank_shown}
+use Rattle.ic_parts.proofs.MarkupLemmas.{row_small}
 use Rattle.ic_book.proofs.model.Model.push_row.Goals as goal
 
 pub returns-then-is_blank_row : goal.returns-then-is_blank_row

@@ -2,8 +2,8 @@ use Rattle.std.proofs.Common.{◌≡◌, ◌≤◌, ◌++◌, ◌+◌, ℕ, List
 use Rattle.std.specs.List.{join_by, range_with_len}
 use Rattle.ic_laws.specs.Position.{column_count}
 use Rattle.ic_sheets.specs.Sheet.{sheet_of}
-use Rattle.ic_book.specs.Markup.{place_shown}
-use Rattle.ic_book.proofs.MarkupLemmas.{all_joined, column_small, none_followed, one_more, row_small}
+use Rattle.ic_parts.specs.Markup.{place_shown}
+use Rattle.ic_parts.proofs.MarkupLemmas.{all_joined, column_small, none_followed, one_more, row_small}
 use Rattle.ic_book.proofs.model.Model.push_row_places.Goals as goal
 
 pub columns-init : goal.columns-init

@@ -1,7 +1,7 @@
 use Rattle.std.proofs.Common.{◌≡◌, ◌-◌, ◌≤◌, ◌++◌, chars, codes, pos, string_bytes}
 use Rattle.ic_sheets.specs.Sheet.{sheet_of}
-use Rattle.ic_book.specs.Markup.{place_shown}
-use Rattle.ic_book.proofs.MarkupLemmas.{followed}
+use Rattle.ic_parts.specs.Markup.{place_shown}
+use Rattle.ic_parts.proofs.MarkupLemmas.{followed}
 use Rattle.ic_book.proofs.model.Model.push_row_places.Given as goal
 
 -- the places after the first so far

@@ -2,8 +2,8 @@ use Rattle.std.proofs.Common.{◌≡◌, ◌≤◌, ◌++◌, ◌+◌, [], ◌�
 use Rattle.std.specs.List.{join_by, range_with_len}
 use Rattle.ic_laws.specs.Character.{line_feed}
 use Rattle.ic_sheets.specs.Sheet.{sheet_of}
-use Rattle.ic_book.specs.Markup.{row_shown}
-use Rattle.ic_book.proofs.MarkupLemmas.{all_joined, none_followed, one_more}
+use Rattle.ic_parts.specs.Markup.{row_shown}
+use Rattle.ic_parts.proofs.MarkupLemmas.{all_joined, none_followed, one_more}
 use Rattle.ic_book.proofs.model.Model.push_rows.Goals as goal
 
 pub rows-init : goal.rows-init

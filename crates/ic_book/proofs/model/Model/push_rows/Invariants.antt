@@ -1,8 +1,8 @@
 use Rattle.std.proofs.Common.{◌≡◌, ◌-◌, ◌≤◌, ◌++◌, [], ◌∷◌, chars, string_bytes}
 use Rattle.ic_laws.specs.Character.{line_feed}
 use Rattle.ic_sheets.specs.Sheet.{sheet_of}
-use Rattle.ic_book.specs.Markup.{row_shown}
-use Rattle.ic_book.proofs.MarkupLemmas.{followed}
+use Rattle.ic_parts.specs.Markup.{row_shown}
+use Rattle.ic_parts.proofs.MarkupLemmas.{followed}
 use Rattle.ic_book.proofs.model.Model.push_rows.Given as goal
 
 -- the rows after the first so far

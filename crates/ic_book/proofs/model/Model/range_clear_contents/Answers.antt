@@ -1,8 +1,8 @@
 use Rattle.std.proofs.Common.{rules, false}
 use Rattle.ic_machine.specs.subjects.Arrays.{clear_step}
-use Rattle.ic_book.specs.Arrays.{block_of}
-use Rattle.ic_book.specs.Fields.{no_fields}
-use Rattle.ic_book.proofs.PartUses.{grid_changed}
+use Rattle.ic_parts.specs.Arrays.{block_of}
+use Rattle.ic_parts.specs.Fields.{no_fields}
+use Rattle.ic_parts.proofs.PartUses.{grid_changed}
 use Rattle.ic_book.proofs.model.Model.range_clear_contents.Goals as goal
 
 pub returns-clause-does : goal.returns-clause-does

@@ -1,5 +1,5 @@
 use Rattle.std.proofs.Common.{◌≡◌, take, map}
-use Rattle.ic_book.specs.Workbook.{defined_name_of}
+use Rattle.ic_workbooks.specs.Workbook.{defined_name_of}
 use Rattle.ic_book.proofs.model.Model.records_of.Given as goal
 
 -- those so far

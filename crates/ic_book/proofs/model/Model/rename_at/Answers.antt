@@ -12,16 +12,17 @@ use Rattle.ic_sheets.specs.Rewriting.{look_ups, looks_up_after}
 use Rattle.ic_sheets.specs.Sheet.{Sheet}
 use Rattle.ic_sheets.specs.declared.sheet.Sheet.{Sheet as HeldSheet}
 use Rattle.ic_definitions.specs.Named.{definitions_scene}
-use Rattle.ic_book.specs.Book.{ModelState, core_of, notations_in}
-use Rattle.ic_book.specs.Change.{book_changed_by, with_renamed_sheet}
+use Rattle.ic_parts.specs.Book.{ModelState, core_of, notations_in}
+use Rattle.ic_parts.specs.Change.{book_changed_by, with_renamed_sheet}
 use Rattle.ic_book.specs.Inside.{held, held_state, with_contents}
-use Rattle.ic_book.specs.LookUps.{LooksUpNamed}
-use Rattle.ic_book.specs.Refused.{Refuses}
-use Rattle.ic_book.proofs.BookLemmas.{core_of-changed, renamed_change}
-use Rattle.ic_book.proofs.BookValid.{renamed_valid}
-use Rattle.ic_book.proofs.HeldLemmas.{no_memory, binds_renamed, held_after, keeps_renamed, lacks_is, past_of, read_is, rename_accepts, rename_lacks, rename_taken, renamed, same_naming, seen_names, there_is, within_of}
-use Rattle.ic_book.proofs.SparedBodies.{naming_bodies}
-use Rattle.ic_book.proofs.LookUpLemmas.{looks_up_at}
+use Rattle.ic_changes.specs.LookUps.{LooksUpNamed}
+use Rattle.ic_parts.specs.Refused.{Refuses}
+use Rattle.ic_parts.proofs.BookLemmas.{core_of-changed, renamed_change}
+use Rattle.ic_parts.proofs.BookValid.{renamed_valid}
+use Rattle.ic_parts.proofs.HeldLemmas.{no_memory, lacks_is, past_of, read_is, rename_accepts, rename_lacks, rename_taken, seen_names, there_is, within_of}
+use Rattle.ic_book.proofs.HeldLemmas.{binds_renamed, held_after, keeps_renamed, renamed, same_naming}
+use Rattle.ic_changes.proofs.SparedBodies.{naming_bodies}
+use Rattle.ic_changes.proofs.LookUpLemmas.{looks_up_at}
 use Rattle.ic_book.proofs.model.Model.rename_at.Goals as goal
 
 pub returns-then-is_taken_by_other-clause-refused : goal.returns-then-is_taken_by_other-clause-refused

@@ -1,11 +1,11 @@
 use Rattle.std.proofs.Common.{chars, sym, ap, subst, ◌∙◌}
 use Rattle.std.proofs.lemmas.Result.{IfOk-weaker}
 use Rattle.ic_laws.specs.CoreStep.{index_of_name}
-use Rattle.ic_book.specs.Book.{IsValidBook, ModelState, core_of}
-use Rattle.ic_book.specs.LookUps.{LooksUpNamed}
-use Rattle.ic_book.specs.Mentioned.{BindsNamed}
-use Rattle.ic_book.proofs.DoesLemmas.{renames, renames_none}
-use Rattle.ic_book.proofs.HeldLemmas.{at_some, found_by_name}
+use Rattle.ic_parts.specs.Book.{IsValidBook, ModelState, core_of}
+use Rattle.ic_changes.specs.LookUps.{LooksUpNamed}
+use Rattle.ic_parts.specs.Mentioned.{BindsNamed}
+use Rattle.ic_parts.proofs.DoesLemmas.{renames, renames_none}
+use Rattle.ic_parts.proofs.HeldLemmas.{at_some, found_by_name}
 use Rattle.ic_book.proofs.model.Model.rename_sheet.Goals as goal
 
 pub returns-in_default-clause-does : goal.returns-in_default-clause-does

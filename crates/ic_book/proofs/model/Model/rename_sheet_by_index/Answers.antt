@@ -1,5 +1,5 @@
 use Rattle.std.proofs.Common.{chars}
-use Rattle.ic_book.proofs.DoesLemmas.{renames_at}
+use Rattle.ic_parts.proofs.DoesLemmas.{renames_at}
 use Rattle.ic_book.proofs.model.Model.rename_sheet_by_index.Goals as goal
 
 pub returns-clause-does : goal.returns-clause-does

@@ -1,10 +1,10 @@
 use Rattle.std.proofs.Common.{List, refl, ap, ap₂, ◌∙◌}
 use Rattle.ic_laws.specs.CoreBook.{Definition}
 use Rattle.ic_sheets.specs.declared.sheet.Sheet.{Sheet as HeldSheet}
-use Rattle.ic_book.specs.Book.{ModelState, scene_in}
+use Rattle.ic_parts.specs.Book.{ModelState, scene_in}
 use Rattle.ic_book.specs.Inside.{held}
-use Rattle.ic_book.specs.Scene.{scene_of_parts}
-use Rattle.ic_book.proofs.HeldLemmas.{scene_held}
+use Rattle.ic_parts.specs.Scene.{scene_of_parts}
+use Rattle.ic_parts.proofs.HeldLemmas.{scene_held}
 use Rattle.ic_book.proofs.model.Model.scene.Goals as goal
 
 pub returns : goal.returns

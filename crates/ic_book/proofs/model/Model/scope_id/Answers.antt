@@ -1,7 +1,7 @@
 use Rattle.std.proofs.Common.{ap, sym}
-use Rattle.ic_book.specs.Book.{ModelState, core_of}
-use Rattle.ic_book.proofs.HeldLemmas.{at_index}
-use Rattle.ic_book.proofs.NameLemmas.{scope_there}
+use Rattle.ic_parts.specs.Book.{ModelState, core_of}
+use Rattle.ic_parts.proofs.HeldLemmas.{at_index}
+use Rattle.ic_parts.proofs.NameLemmas.{scope_there}
 use Rattle.ic_book.proofs.model.Model.scope_id.Goals as goal
 
 pub returns-in_ok-sheet-in-Some : goal.returns-in_ok-sheet-in-Some

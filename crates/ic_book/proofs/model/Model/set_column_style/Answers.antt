@@ -1,11 +1,11 @@
 use Rattle.std.proofs.Common.{subst, w32}
 use Rattle.std.proofs.lemmas.Int.{to_z-of_z}
 use Rattle.ic_machine.specs.subjects.Styles.{set_column_step}
-use Rattle.ic_book.specs.Does.{DoesStep, Wanted}
-use Rattle.ic_book.specs.Fields.{no_fields}
-use Rattle.ic_book.specs.Styled.{set_line_step}
-use Rattle.ic_book.specs.Whole.{whole_of}
-use Rattle.ic_book.specs.declared.styled.Line.TheVariants as lines
+use Rattle.ic_parts.specs.Does.{DoesStep, Wanted}
+use Rattle.ic_parts.specs.Fields.{no_fields}
+use Rattle.ic_parts.specs.Styled.{set_line_step}
+use Rattle.ic_parts.specs.Whole.{whole_of}
+use Rattle.ic_parts.specs.declared.styled.Line.TheVariants as lines
 use Rattle.ic_book.proofs.model.Model.set_column_style.Goals as goal
 
 pub returns-clause-does : goal.returns-clause-does

@@ -1,7 +1,7 @@
 use Rattle.std.proofs.Common.{rules}
 use Rattle.ic_machine.specs.subjects.Tabs.{freeze_rows_step}
-use Rattle.ic_book.specs.Fields.{no_fields}
-use Rattle.ic_book.proofs.PartUses.{tab_changed}
+use Rattle.ic_parts.specs.Fields.{no_fields}
+use Rattle.ic_parts.proofs.PartUses.{tab_changed}
 use Rattle.ic_book.proofs.model.Model.set_frozen_rows.Goals as goal
 
 pub returns-clause-does : goal.returns-clause-does

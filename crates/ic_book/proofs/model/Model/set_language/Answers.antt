@@ -1,13 +1,13 @@
 use Rattle.std.proofs.Common.{◌≡◌, [], ◌∷◌, Some, None, Ok, Err, not, chars, refl, sym, ap, subst, ◌∙◌}
 use Rattle.ic_tables.specs.Tables.{language_of}
 use Rattle.ic_laws.specs.Refusal.{InvalidLanguage, first_refusal}
-use Rattle.ic_book.specs.Book.{Book, IsValidBook, ModelState, NotationState, notations_in}
-use Rattle.ic_book.specs.declared.error.BookError.TheVariants as errors
-use Rattle.ic_book.proofs.DoesLemmas.{puts_language}
-use Rattle.ic_book.specs.Change.{with_language}
+use Rattle.ic_parts.specs.Book.{Book, IsValidBook, ModelState, NotationState, notations_in}
+use Rattle.ic_parts.specs.declared.error.BookError.TheVariants as errors
+use Rattle.ic_parts.proofs.DoesLemmas.{puts_language}
+use Rattle.ic_parts.specs.Change.{with_language}
 use Rattle.ic_book.specs.Inside.{IsHeld, held, held_state}
-use Rattle.ic_book.proofs.BookValid.{in_language}
-use Rattle.ic_book.proofs.HeldLemmas.{language_accepted, language_is, language_unknown}
+use Rattle.ic_parts.proofs.BookValid.{in_language}
+use Rattle.ic_parts.proofs.HeldLemmas.{language_accepted, language_is, language_unknown}
 use Rattle.ic_book.proofs.model.Model.set_language.Goals as goal
 
 pub put_language-requires : goal.put_language-requires

@@ -1,13 +1,13 @@
 use Rattle.std.proofs.Common.{◌≡◌, [], ◌∷◌, Some, None, Ok, Err, not, chars, refl, sym, ap, subst, ◌∙◌}
 use Rattle.ic_tables.specs.Tables.{locale_of}
 use Rattle.ic_laws.specs.Refusal.{InvalidLocale, first_refusal}
-use Rattle.ic_book.specs.Book.{Book, IsValidBook, ModelState, NotationState, notations_in}
-use Rattle.ic_book.specs.declared.error.BookError.TheVariants as errors
-use Rattle.ic_book.proofs.DoesLemmas.{puts_locale}
-use Rattle.ic_book.specs.Change.{with_locale}
+use Rattle.ic_parts.specs.Book.{Book, IsValidBook, ModelState, NotationState, notations_in}
+use Rattle.ic_parts.specs.declared.error.BookError.TheVariants as errors
+use Rattle.ic_parts.proofs.DoesLemmas.{puts_locale}
+use Rattle.ic_parts.specs.Change.{with_locale}
 use Rattle.ic_book.specs.Inside.{IsHeld, held, held_state}
-use Rattle.ic_book.proofs.BookValid.{in_locale}
-use Rattle.ic_book.proofs.HeldLemmas.{locale_accepted, locale_is, locale_unknown}
+use Rattle.ic_parts.proofs.BookValid.{in_locale}
+use Rattle.ic_parts.proofs.HeldLemmas.{locale_accepted, locale_is, locale_unknown}
 use Rattle.ic_book.proofs.model.Model.set_locale.Goals as goal
 
 pub put_locale-requires : goal.put_locale-requires

@@ -1,7 +1,7 @@
 use Rattle.std.proofs.Common.{ap, subst}
-use Rattle.ic_book.specs.Book.{IsValidBook, ModelState}
+use Rattle.ic_parts.specs.Book.{IsValidBook, ModelState}
 use Rattle.ic_book.specs.Inside.{held}
-use Rattle.ic_book.proofs.SettingLemmas.{puts_theme, theme_valid, with_theme}
+use Rattle.ic_parts.proofs.SettingLemmas.{puts_theme, theme_valid, with_theme}
 use Rattle.ic_book.proofs.model.Model.set_theme.Goals as goal
 
 pub invariant_of-self : goal.invariant_of-self

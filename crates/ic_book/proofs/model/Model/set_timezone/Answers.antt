@@ -1,8 +1,8 @@
 use Rattle.std.proofs.Common.{◌≡◌, true, false, ap, chars, sym, subst, ◌∙◌}
 use Rattle.ic_tables.specs.Tables.{lists_zone}
-use Rattle.ic_book.specs.Book.{IsValidBook, ModelState}
+use Rattle.ic_parts.specs.Book.{IsValidBook, ModelState}
 use Rattle.ic_book.specs.Inside.{held, held_state}
-use Rattle.ic_book.proofs.SettingLemmas.{puts_zone, unknown_zone, with_zone, zone_valid}
+use Rattle.ic_parts.proofs.SettingLemmas.{puts_zone, unknown_zone, with_zone, zone_valid}
 use Rattle.ic_book.proofs.model.Model.set_timezone.Goals as goal
 
 pub invariant_of-self : goal.invariant_of-self

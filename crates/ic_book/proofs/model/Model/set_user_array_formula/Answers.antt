@@ -4,13 +4,13 @@ use Rattle.ic_grid.specs.Block.{block_at}
 use Rattle.ic_grid.specs.declared.block.Block.{Block}
 use Rattle.ic_machine.specs.subjects.Arrays.{array_step}
 use Rattle.ic_sheets.proofs.CellLemmas.{stored_block}
-use Rattle.ic_book.specs.Arrays.{WritesArray, after_equals, array_refusal}
-use Rattle.ic_book.specs.Book.{whole_of}
-use Rattle.ic_book.specs.Does.{DoesStep, WantedIn}
-use Rattle.ic_book.specs.Fields.{no_fields}
-use Rattle.ic_book.specs.Refused.{refusal_of}
-use Rattle.ic_book.proofs.ArrayWritten.{array_does, array_no_formula, array_refused}
-use Rattle.ic_book.proofs.CellReads.{of_error}
+use Rattle.ic_parts.specs.Arrays.{WritesArray, after_equals, array_refusal}
+use Rattle.ic_parts.specs.Book.{whole_of}
+use Rattle.ic_parts.specs.Does.{DoesStep, WantedIn}
+use Rattle.ic_parts.specs.Fields.{no_fields}
+use Rattle.ic_parts.specs.Refused.{refusal_of}
+use Rattle.ic_parts.proofs.ArrayWritten.{array_does, array_no_formula, array_refused}
+use Rattle.ic_parts.proofs.CellReads.{of_error}
 use Rattle.ic_book.proofs.model.Model.set_user_array_formula.Goals as goal
 
 pub returns-in_err-may_write_array-clause-does : goal.returns-in_err-may_write_array-clause-does

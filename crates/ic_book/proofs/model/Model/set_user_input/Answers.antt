@@ -5,14 +5,14 @@ use Rattle.ic_machine.specs.Book.{Stepped}
 use Rattle.ic_machine.specs.InForce.{typed_in}
 use Rattle.ic_machine.specs.subjects.Writing.{input_step}
 use Rattle.ic_sheets.proofs.CellLemmas.{stored_pair}
-use Rattle.ic_book.specs.Book.{whole_of}
-use Rattle.ic_book.specs.Does.{DoesStep, WantedIn}
-use Rattle.ic_book.specs.Fields.{no_fields}
-use Rattle.ic_book.specs.Refused.{refusal_of}
-use Rattle.ic_book.specs.Values.{typed_step}
-use Rattle.ic_book.proofs.CellReads.{of_error}
-use Rattle.ic_book.proofs.RetypedLemmas.{retyped_so}
-use Rattle.ic_book.proofs.TypedSteps.{input_is, input_told, input_wants}
+use Rattle.ic_parts.specs.Book.{whole_of}
+use Rattle.ic_parts.specs.Does.{DoesStep, WantedIn}
+use Rattle.ic_parts.specs.Fields.{no_fields}
+use Rattle.ic_parts.specs.Refused.{refusal_of}
+use Rattle.ic_parts.specs.Values.{typed_step}
+use Rattle.ic_parts.proofs.CellReads.{of_error}
+use Rattle.ic_parts.proofs.RetypedLemmas.{retyped_so}
+use Rattle.ic_changes.proofs.TypedSteps.{input_is, input_told, input_wants}
 use Rattle.ic_book.proofs.ValueLemmas.{refusal_there}
 use Rattle.ic_book.proofs.model.Model.set_user_input.Goals as goal
 

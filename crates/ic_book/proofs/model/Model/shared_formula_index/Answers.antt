@@ -9,13 +9,14 @@ use Rattle.ic_sheets.proofs.WriteLemmas.{at_err}
 use Rattle.ic_sheets.specs.Sheet as sheets
 use Rattle.ic_sheets.specs.Sheet.{Sheet}
 use Rattle.ic_sheets.specs.declared.sheet.Sheet.{Sheet as HeldSheet}
-use Rattle.ic_book.specs.Book.{ModelState, core_of, notations_in, scene_in}
+use Rattle.ic_parts.specs.Book.{ModelState, core_of, notations_in, scene_in}
 use Rattle.ic_book.specs.Inside.{held, held_state, with_sheets}
-use Rattle.ic_book.specs.LookUps.{LooksUpAsBefore}
-use Rattle.ic_book.specs.Written.{pool_at, with_pool}
-use Rattle.ic_book.proofs.HeldLemmas.{held_again, placed, placed_core, placed_held, pool_at_is, whole_at, whole_updated, within_of}
-use Rattle.ic_book.proofs.LookUpLemmas.{look_ups_left}
-use Rattle.ic_book.proofs.NameIndexLemmas.{indexed_seen, indexed_updated}
+use Rattle.ic_changes.specs.LookUps.{LooksUpAsBefore}
+use Rattle.ic_parts.specs.Written.{pool_at, with_pool}
+use Rattle.ic_book.proofs.HeldLemmas.{held_again, placed, placed_core, placed_held, pool_at_is}
+use Rattle.ic_parts.proofs.HeldLemmas.{whole_at, whole_updated, within_of}
+use Rattle.ic_changes.proofs.LookUpLemmas.{look_ups_left}
+use Rattle.ic_parts.proofs.NameIndexLemmas.{indexed_seen, indexed_updated}
 use Rattle.ic_book.proofs.model.Model.shared_formula_index.Goals as goal
 
 pub invariant_of-self : goal.invariant_of-self

@@ -1,8 +1,8 @@
 use Rattle.std.proofs.Common.{nat_eq, ap, sym, ◌∙◌}
 use Rattle.std.specs.Prelude.{position}
 use Rattle.ic_laws.specs.CoreBook.{Sheet as CoreSheet}
-use Rattle.ic_book.specs.Book.{ModelState, core_of}
-use Rattle.ic_book.proofs.HeldLemmas.{found_by_id}
+use Rattle.ic_parts.specs.Book.{ModelState, core_of}
+use Rattle.ic_parts.proofs.HeldLemmas.{found_by_id}
 use Rattle.ic_book.proofs.model.Model.sheet_index.Goals as goal
 
 pub returns-in_err-index : goal.returns-in_err-index

@@ -1,10 +1,10 @@
 use Rattle.std.proofs.Common.{map, refl, ap, ◌∙◌}
 use Rattle.std.proofs.lemmas.Result.{IfOk-weaker}
 use Rattle.ic_laws.specs.declared.scene.Scene.{Scene}
-use Rattle.ic_book.specs.Book.{ModelState, scene_in}
+use Rattle.ic_parts.specs.Book.{ModelState, scene_in}
 use Rattle.ic_book.specs.Inside.{held}
-use Rattle.ic_book.specs.Scene.{named}
-use Rattle.ic_book.proofs.HeldLemmas.{scene_held}
+use Rattle.ic_parts.specs.Scene.{named}
+use Rattle.ic_parts.proofs.HeldLemmas.{scene_held}
 use Rattle.ic_book.proofs.model.Model.sheet_names.Goals as goal
 
 pub returns : goal.returns

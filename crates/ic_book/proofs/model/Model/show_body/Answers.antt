@@ -1,8 +1,8 @@
 use Rattle.std.proofs.Common.{sym, ◌∙◌}
 use Rattle.std.specs.Str.{chars}
 use Rattle.std.proofs.lemmas.Result.{IfOk-weaker}
-use Rattle.ic_book.specs.Book.{core_of, notations_in}
-use Rattle.ic_book.proofs.NameLemmas.{shown_bare, shown_with_equals}
+use Rattle.ic_parts.specs.Book.{core_of, notations_in}
+use Rattle.ic_parts.proofs.NameLemmas.{shown_bare, shown_with_equals}
 use Rattle.ic_book.proofs.model.Model.show_body.Goals as goal
 
 pub returns-then-has_equals : goal.returns-then-has_equals

@@ -3,10 +3,10 @@ use Rattle.ic_tables.specs.Tables.{HasGoodFormats}
 use Rattle.ic_laws.specs.CoreBook.{CellPlace}
 use Rattle.ic_laws.specs.FormulaReading.{shown_at}
 use Rattle.ic_tables.proofs.WellFormed.{formats_of_named}
-use Rattle.ic_book.specs.Book.{ModelState, core_of, notations_in}
+use Rattle.ic_parts.specs.Book.{ModelState, core_of, notations_in}
 use Rattle.ic_sheets.proofs.CellLemmas.{stored_pair}
 use Rattle.ic_book.specs.Inside.{held}
-use Rattle.ic_book.proofs.InForceLemmas.{shown_by}
+use Rattle.ic_parts.proofs.InForceLemmas.{shown_by}
 use Rattle.ic_book.proofs.model.Model.shown.Goals as goal
 
 pub new-requires-clause-locale : goal.new-requires-clause-locale

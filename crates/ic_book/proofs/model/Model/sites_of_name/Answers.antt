@@ -1,6 +1,6 @@
 use Rattle.std.proofs.Common.{chars, sym, ◌∙◌}
-use Rattle.ic_book.proofs.MentioningLemmas.{named_sites}
-use Rattle.ic_book.proofs.WholeLemmas.{whole_core}
+use Rattle.ic_changes.proofs.MentioningLemmas.{named_sites}
+use Rattle.ic_parts.proofs.WholeLemmas.{whole_core}
 use Rattle.ic_book.proofs.model.Model.sites_of_name.Goals as goal
 
 pub returns-clause-sites : goal.returns-clause-sites

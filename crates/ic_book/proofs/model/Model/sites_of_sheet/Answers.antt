@@ -1,5 +1,5 @@
 use Rattle.std.proofs.Common.{sym, ◌∙◌}
-use Rattle.ic_book.proofs.MentioningLemmas.{sheet_there, sites_there}
+use Rattle.ic_changes.proofs.MentioningLemmas.{sheet_there, sites_there}
 use Rattle.ic_book.proofs.model.Model.sites_of_sheet.Goals as goal
 
 pub returns-clause-sites : goal.returns-clause-sites

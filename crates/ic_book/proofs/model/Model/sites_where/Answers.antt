@@ -1,6 +1,6 @@
 use Rattle.std.proofs.Common.{ap, map, ◌∙◌}
 use Rattle.std.proofs.lemmas.Result.{IfOk-weaker}
-use Rattle.ic_book.specs.Sites.{site_of}
+use Rattle.ic_parts.specs.Sites.{site_of}
 use Rattle.ic_book.proofs.MentioningLemmas.{listed_seen}
 use Rattle.ic_book.proofs.model.Model.sites_where.Goals as goal
 

@@ -1,7 +1,7 @@
 use Rattle.std.proofs.Common.{ap, ◌∙◌}
 use Rattle.ic_tree.proofs.NotationLaws.{stored_notation}
 use Rattle.ic_tree.specs.Notations.{notations_of}
-use Rattle.ic_book.specs.Book.{ModelState, notations_in}
+use Rattle.ic_parts.specs.Book.{ModelState, notations_in}
 use Rattle.ic_book.proofs.model.Model.stored_form.Goals as goal
 
 pub returns : goal.returns

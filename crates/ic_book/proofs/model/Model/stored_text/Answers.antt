@@ -2,9 +2,9 @@ use Rattle.std.proofs.Common.{ap₂, ◌∙◌}
 use Rattle.std.proofs.lemmas.Result.{IfOk-weaker}
 use Rattle.ic_laws.specs.Dialect.{DialectMeaning}
 use Rattle.ic_laws.specs.declared.scene.Scene.{Scene}
-use Rattle.ic_book.specs.Book.{notations_in, scene_in}
-use Rattle.ic_book.specs.Workbook.{text_in}
-use Rattle.ic_book.proofs.WorkbookLemmas.{text_is_stored}
+use Rattle.ic_parts.specs.Book.{notations_in, scene_in}
+use Rattle.ic_workbooks.specs.Workbook.{text_in}
+use Rattle.ic_workbooks.proofs.WorkbookLemmas.{text_is_stored}
 use Rattle.ic_book.proofs.model.Model.stored_text.Goals as goal
 
 pub returns : goal.returns

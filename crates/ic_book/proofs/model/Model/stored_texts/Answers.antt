@@ -1,6 +1,6 @@
 use Rattle.std.proofs.Common.{◌≡◌, ◌+◌, ◌<◌, ◌∙◌, ap, map, option_map, subst, sym, take}
-use Rattle.ic_book.specs.Workbook.{stored_text}
-use Rattle.ic_book.proofs.CopyLemmas.{next_mapped, within}
+use Rattle.ic_workbooks.specs.Workbook.{stored_text}
+use Rattle.ic_parts.proofs.CopyLemmas.{next_mapped, within}
 use Rattle.ic_book.proofs.model.Model.stored_texts.Goals as goal
 use Rattle.ic_book.proofs.model.Model.stored_texts.Goals.{in-Some+in_ok-stored_text+in_ok-push, in_default}
 

@@ -1,5 +1,5 @@
 use Rattle.std.proofs.Common.{◌≡◌, map, take}
-use Rattle.ic_book.specs.Workbook.{stored_text}
+use Rattle.ic_workbooks.specs.Workbook.{stored_text}
 use Rattle.ic_book.proofs.model.Model.stored_texts.Given as goal
 
 -- those so far

@@ -3,11 +3,11 @@ use Rattle.ic_cells.specs.Style.{style_at}
 use Rattle.ic_machine.specs.Fields.{optional_style_fields}
 use Rattle.ic_machine.specs.Valid.{IsStyleNumber}
 use Rattle.ic_sheets.specs.Sheet.{sheet_of}
-use Rattle.ic_book.specs.Book.{IsValidBook, ModelState}
-use Rattle.ic_book.specs.Does.{Wanted}
-use Rattle.ic_book.specs.Styled.{line_causes, line_style}
-use Rattle.ic_book.specs.Whole.{whole_of}
-use Rattle.ic_book.proofs.StyleLemmas.{line_below, line_told, passes_memory, passes_missing, passes_refusal, tells_line}
+use Rattle.ic_parts.specs.Book.{IsValidBook, ModelState}
+use Rattle.ic_parts.specs.Does.{Wanted}
+use Rattle.ic_parts.specs.Styled.{line_causes, line_style}
+use Rattle.ic_parts.specs.Whole.{whole_of}
+use Rattle.ic_parts.proofs.StyleLemmas.{line_below, line_told, passes_memory, passes_missing, passes_refusal, tells_line}
 use Rattle.ic_book.proofs.model.Model.style_set_for.Goals as goal
 
 pub returns-in_err-worksheet : goal.returns-in_err-worksheet

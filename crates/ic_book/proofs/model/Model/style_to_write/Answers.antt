@@ -5,10 +5,10 @@ use Rattle.ic_laws.specs.CoreBook.{CellPlace}
 use Rattle.ic_machine.specs.Refusal.{InvalidSheet, first_refusal}
 use Rattle.ic_sheets.proofs.CellLemmas.{stored_pair}
 use Rattle.ic_sheets.specs.Sheet.{sheet_of}
-use Rattle.ic_book.specs.Book.{ModelState}
-use Rattle.ic_book.specs.Refused.{TellsOnly}
-use Rattle.ic_book.specs.Values.{value_causes, value_refusal_in}
-use Rattle.ic_book.proofs.HeldLemmas.{at_index}
+use Rattle.ic_parts.specs.Book.{ModelState}
+use Rattle.ic_parts.specs.Refused.{TellsOnly}
+use Rattle.ic_parts.specs.Values.{value_causes, value_refusal_in}
+use Rattle.ic_parts.proofs.HeldLemmas.{at_index}
 use Rattle.ic_book.proofs.PartLemmas.{not_held, past_end}
 use Rattle.ic_book.proofs.model.Model.style_to_write.Goals as goal
 

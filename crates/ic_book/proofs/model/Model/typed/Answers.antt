@@ -1,7 +1,7 @@
 use Rattle.std.proofs.Common.{◌∙◌, chars, sym, ap}
 use Rattle.std.proofs.lemmas.Result.{IfOk-weaker}
 use Rattle.ic_machine.specs.InForce.{typed_in}
-use Rattle.ic_book.specs.Book.{ModelState, whole_of}
+use Rattle.ic_parts.specs.Book.{ModelState, whole_of}
 use Rattle.ic_book.proofs.InForceLemmas.{typed_is}
 use Rattle.ic_book.proofs.model.Model.typed.Goals as goal
 

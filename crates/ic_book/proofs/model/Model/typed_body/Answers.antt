@@ -1,9 +1,9 @@
 use Rattle.std.proofs.Common.{None, Some, ap, ap₂, chars, pos, refl, subst, sym, true, ◌≡◌, ◌∙◌}
 use Rattle.ic_laws.specs.FormulaReading.{lambda_tree, reference_tree, shown_at}
 use Rattle.ic_laws.specs.Notations.{AreNotations, english}
-use Rattle.ic_book.specs.Book.{ModelState, core_of, notations_in}
+use Rattle.ic_parts.specs.Book.{ModelState, core_of, notations_in}
 use Rattle.ic_book.proofs.HeldLemmas.{notations}
-use Rattle.ic_book.proofs.NameLemmas.{body_is, reads_within}
+use Rattle.ic_parts.proofs.NameLemmas.{body_is, reads_within}
 use Rattle.ic_book.proofs.model.Model.typed_body.Goals as goal
 
 pub returns-in-Some : goal.returns-in-Some

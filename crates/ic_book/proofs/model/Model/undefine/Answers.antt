@@ -1,15 +1,15 @@
 use Rattle.std.proofs.Common.{ap, chars, position, subst, sym, ◌∙◌}
 use Rattle.ic_laws.specs.CoreStep.{is_named}
-use Rattle.ic_book.specs.Book.{ModelState, core_of}
-use Rattle.ic_book.specs.Refused.{Refuses}
-use Rattle.ic_book.proofs.HeldLemmas.{no_memory}
+use Rattle.ic_parts.specs.Book.{ModelState, core_of}
+use Rattle.ic_parts.specs.Refused.{Refuses}
+use Rattle.ic_parts.proofs.HeldLemmas.{no_memory}
 use Rattle.ic_book.proofs.NameHeld.{it_goes, undefined_book, undefined_core, undefined_dangles, undefined_held, undefined_looks_up}
-use Rattle.ic_book.proofs.NameLemmas.{no_name}
+use Rattle.ic_parts.proofs.NameLemmas.{no_name}
 use Rattle.std.specs.Prelude.{remove}
 use Rattle.ic_definitions.specs.Named.{definitions_scene}
 use Rattle.ic_laws.specs.Changes.{definition_gone}
 use Rattle.ic_laws.specs.CoreBook.{spelling_of}
-use Rattle.ic_book.proofs.NameIndexLemmas.{indexed_changed}
+use Rattle.ic_parts.proofs.NameIndexLemmas.{indexed_changed}
 use Rattle.ic_definitions.proofs.NamesFacts.{item_at_position}
 use Rattle.ic_book.proofs.model.Model.undefine.Goals as goal
 

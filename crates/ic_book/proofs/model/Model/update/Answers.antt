@@ -1,12 +1,12 @@
 use Rattle.std.proofs.Common.{List, Option, Some, ap, chars, inl, map, sym, ◌∙◌}
 use Rattle.ic_machine.specs.Refusal.{Refusal, WouldCapture}
 use Rattle.ic_machine.specs.subjects.Definitions.{update_of}
-use Rattle.ic_book.specs.Sites.{site_of}
-use Rattle.ic_book.specs.Whole.{whole_of}
-use Rattle.ic_book.specs.declared.sites.MentionSite.{MentionSite}
-use Rattle.ic_book.proofs.UpdatedDoes.{refused_by_checks, wanted_after}
+use Rattle.ic_parts.specs.Sites.{site_of}
+use Rattle.ic_parts.specs.Whole.{whole_of}
+use Rattle.ic_parts.specs.declared.sites.MentionSite.{MentionSite}
+use Rattle.ic_changes.proofs.UpdatedDoes.{refused_by_checks, wanted_after}
 use Rattle.ic_book.proofs.UpdatedHeld.{accepted_held, apart_held, fits_held, leaves_held, refused_held, updated_held, updated_looks_up, updated_whole, within_held}
-use Rattle.ic_book.proofs.NameIndexLemmas.{indexed_same}
+use Rattle.ic_parts.proofs.NameIndexLemmas.{indexed_same}
 use Rattle.ic_sheets.proofs.RewritingLemmas.{ids_rewritten, names_rewritten}
 use Rattle.ic_sheets.proofs.SearchLemmas.{ids, names}
 use Rattle.ic_book.proofs.model.Model.update.Goals as goal

@@ -1,6 +1,6 @@
 use Rattle.std.proofs.Common.{chars}
 use Rattle.ic_machine.specs.subjects.Definitions.{update_of}
-use Rattle.ic_book.proofs.UpdatedDoes.{means_same, updates}
+use Rattle.ic_changes.proofs.UpdatedDoes.{means_same, updates}
 use Rattle.ic_book.proofs.model.Model.update_defined_name.Goals as goal
 
 pub returns-clause-does : goal.returns-clause-does

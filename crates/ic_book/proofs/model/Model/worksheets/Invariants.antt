@@ -1,6 +1,6 @@
 use Rattle.std.proofs.Common.{◌≡◌, take, map}
 use Rattle.ic_sheets.specs.Sheet.{sheet_of}
-use Rattle.ic_book.specs.Workbook.{worksheet_of}
+use Rattle.ic_workbooks.specs.Workbook.{worksheet_of}
 use Rattle.ic_book.proofs.model.Model.worksheets.Given as goal
 
 -- those so far

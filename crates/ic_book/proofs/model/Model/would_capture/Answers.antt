@@ -1,6 +1,6 @@
 use Rattle.std.proofs.Common.{chars}
 use Rattle.ic_machine.specs.subjects.Definitions.{update_of}
-use Rattle.ic_book.proofs.UpdatedDoes.{asks}
+use Rattle.ic_changes.proofs.UpdatedDoes.{asks}
 use Rattle.ic_book.proofs.model.Model.would_capture.Goals as goal
 
 pub returns : goal.returns

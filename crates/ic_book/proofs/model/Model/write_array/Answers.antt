@@ -7,16 +7,16 @@ use Rattle.ic_laws.specs.FormulaReading.{cell_formula}
 use Rattle.ic_machine.specs.Refusal.{InvalidSheet}
 use Rattle.ic_sheets.proofs.CellLemmas.{stored_pair}
 use Rattle.ic_sheets.proofs.WriteLemmas.{at_err}
-use Rattle.ic_book.specs.Arrays.{WritesArray, array_refusal, array_refusal_in}
-use Rattle.ic_book.specs.Book.{ModelState, core_of, notations_in}
+use Rattle.ic_parts.specs.Arrays.{WritesArray, array_refusal, array_refusal_in}
+use Rattle.ic_parts.specs.Book.{ModelState, core_of, notations_in}
 use Rattle.ic_book.specs.Inside.{held, held_state, with_sheets, with_styles}
-use Rattle.ic_book.specs.LookUps.{LooksUpAsBefore}
-use Rattle.ic_book.specs.Refused.{refusal_of}
+use Rattle.ic_changes.specs.LookUps.{LooksUpAsBefore}
+use Rattle.ic_parts.specs.Refused.{refusal_of}
 use Rattle.ic_book.proofs.ArrayWritten.{array_held, array_looks_up, array_styled, array_takes, array_there, array_within, formula_there}
-use Rattle.ic_book.proofs.CellReads.{of_error}
+use Rattle.ic_parts.proofs.CellReads.{of_error}
 use Rattle.ic_book.proofs.HeldLemmas.{book_again, held_again}
-use Rattle.ic_book.proofs.LookUpLemmas.{look_ups_left}
-use Rattle.ic_book.proofs.NameIndexLemmas.{indexed_updated, indexed_seen}
+use Rattle.ic_changes.proofs.LookUpLemmas.{look_ups_left}
+use Rattle.ic_parts.proofs.NameIndexLemmas.{indexed_updated, indexed_seen}
 use Rattle.ic_book.proofs.model.Model.write_array.Goals as goal
 
 pub returns-in_err-id-clause-memory : goal.returns-in_err-id-clause-memory

@@ -11,15 +11,16 @@ use Rattle.ic_sheets.proofs.CellLemmas.{stored_pair}
 use Rattle.ic_sheets.specs.Sheet.{Sheet, TakesCell, formula_cell, sheet_of, with_cell_in}
 use Rattle.ic_sheets.specs.declared.sheet.Sheet.{Sheet as HeldSheet}
 use Rattle.ic_tables.specs.Tables.{TableSet}
-use Rattle.ic_book.specs.Book.{ModelState, core_of, notations_in}
+use Rattle.ic_parts.specs.Book.{ModelState, core_of, notations_in}
 use Rattle.ic_book.specs.Inside.{held, held_state, with_sheets, with_styles}
-use Rattle.ic_book.specs.LookUps.{LooksUpAsBefore}
-use Rattle.ic_book.specs.Values.{Shows, shown_style}
-use Rattle.ic_book.specs.Written.{WritesFormula, kind_of, value_refusal}
-use Rattle.ic_book.proofs.GridLemmas.{taken_back}
-use Rattle.ic_book.proofs.HeldLemmas.{book_again, clear_at, entry_at, held_again, is_within, style_within, takes_there, whole_at, whole_updated, written, written_held}
-use Rattle.ic_book.proofs.LookUpLemmas.{look_ups_left}
-use Rattle.ic_book.proofs.NameIndexLemmas.{indexed_updated, indexed_seen}
+use Rattle.ic_changes.specs.LookUps.{LooksUpAsBefore}
+use Rattle.ic_parts.specs.Values.{Shows, shown_style}
+use Rattle.ic_parts.specs.Written.{WritesFormula, kind_of, value_refusal}
+use Rattle.ic_parts.proofs.GridLemmas.{taken_back}
+use Rattle.ic_book.proofs.HeldLemmas.{book_again, clear_at, entry_at, held_again, is_within, style_within, takes_there, written, written_held}
+use Rattle.ic_parts.proofs.HeldLemmas.{whole_at, whole_updated}
+use Rattle.ic_changes.proofs.LookUpLemmas.{look_ups_left}
+use Rattle.ic_parts.proofs.NameIndexLemmas.{indexed_updated, indexed_seen}
 use Rattle.ic_book.proofs.model.Model.write_formula.Goals as goal
 
 pub without_quote-requires : goal.without_quote-requires

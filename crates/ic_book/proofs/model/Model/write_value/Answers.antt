@@ -6,17 +6,18 @@ use Rattle.ic_grid.specs.Shape.{is_loose, shape_of}
 use Rattle.ic_sheets.proofs.CellLemmas.{stored_pair}
 use Rattle.ic_sheets.specs.Sheet.{TakesCell, with_cell_in}
 use Rattle.ic_sheets.specs.declared.sheet.Sheet.{Sheet as HeldSheet}
-use Rattle.ic_book.specs.Book.{IsValidBook, ModelState, whole_of}
-use Rattle.ic_book.specs.Does.{DoesStep, Wanted}
-use Rattle.ic_book.specs.Fields.{no_fields}
+use Rattle.ic_parts.specs.Book.{IsValidBook, ModelState, whole_of}
+use Rattle.ic_parts.specs.Does.{DoesStep, Wanted}
+use Rattle.ic_parts.specs.Fields.{no_fields}
 use Rattle.ic_book.specs.Inside.{held_state, with_lists, with_sheets}
-use Rattle.ic_book.specs.Refused.{refusal_of}
-use Rattle.ic_book.specs.Values.{Shows, put_step, style_change, value_content, value_refusal}
-use Rattle.ic_book.proofs.CellReads.{of_error}
-use Rattle.ic_book.proofs.SharedLemmas.{held_as_before, put_done, put_held, put_look_ups, state_again, taken_away, value_loose}
+use Rattle.ic_parts.specs.Refused.{refusal_of}
+use Rattle.ic_parts.specs.Values.{Shows, put_step, style_change, value_content, value_refusal}
+use Rattle.ic_parts.proofs.CellReads.{of_error}
+use Rattle.ic_book.proofs.SharedLemmas.{held_as_before, put_done, put_held, put_look_ups, state_again}
+use Rattle.ic_parts.proofs.SharedLemmas.{taken_away, value_loose}
 use Rattle.ic_book.proofs.ValueLemmas.{is_within, refusal_there, shows_there, style_within, takes_there, value_refused, value_wants}
-use Rattle.ic_book.proofs.NameIndexLemmas.{indexed_updated}
-use Rattle.ic_book.specs.Names.{IsIndexed}
+use Rattle.ic_parts.proofs.NameIndexLemmas.{indexed_updated}
+use Rattle.ic_parts.specs.Names.{IsIndexed}
 use Rattle.ic_book.proofs.model.Model.write_value.Goals as goal
 
 pub new_cell-requires : goal.new_cell-requires

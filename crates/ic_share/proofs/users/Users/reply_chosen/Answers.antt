@@ -2,7 +2,7 @@ use Rattle.std.proofs.Common.{[], chars, string_bytes, ap, ◌∙◌, true, fals
 use Rattle.ic_machine.specs.Book.{Book}
 use Rattle.ic_machine.specs.Command.{command_in, commands}
 use Rattle.ic_machine.specs.Step.{english_errors, line_step}
-use Rattle.ic_book.specs.Whole.{whole_of}
+use Rattle.ic_parts.specs.Whole.{whole_of}
 use Rattle.ic_commands.proofs.AnswerLemmas.{always_err}
 use Rattle.ic_share.specs.Share.{UsersState}
 use Rattle.ic_share.specs.Shared.{in_language}

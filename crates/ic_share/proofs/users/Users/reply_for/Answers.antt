@@ -1,6 +1,6 @@
 use Rattle.std.proofs.Common.{ap, chars, subst, sym, true, ◌≡◌, ◌∙◌}
 use Rattle.ic_machine.specs.Book.{notations_in}
-use Rattle.ic_book.specs.Whole.{whole_of}
+use Rattle.ic_parts.specs.Whole.{whole_of}
 use Rattle.ic_share.specs.Share.{UsersState}
 use Rattle.ic_share.proofs.SentLemmas.{own_known_after}
 use Rattle.ic_share.proofs.users.Users.reply_for.Goals as goal

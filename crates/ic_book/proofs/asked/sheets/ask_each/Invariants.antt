@@ -1,8 +1,0 @@
-use Rattle.std.proofs.Common.{take}
-use Rattle.std.specs.List.{AllByRecursion}
-use Rattle.ic_book.specs.Filled.{IsMet}
-use Rattle.ic_book.proofs.asked.sheets.ask_each.Given as goal
-
--- those so far
-abbrev pub invariant-loop-sheet : goal.invariant-loop-sheet
-invariant-loop-sheet l = AllByRecursion (IsMet l.condition l.styles) (take l.sheet-index l.sheets)

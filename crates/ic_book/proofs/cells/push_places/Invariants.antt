@@ -1,8 +1,0 @@
-use Rattle.std.proofs.Common.{◌≡◌, ◌++◌, map}
-use Rattle.std.specs.BTreeMap.{keys}
-use Rattle.ic_book.specs.Cells.{place_in}
-use Rattle.ic_book.proofs.cells.push_places.Given as goal
-
--- what is listed so far, and the places that are left
-abbrev pub invariant-loop-place : goal.invariant-loop-place
-invariant-loop-place l = l.all.items ++ map (place_in l.index) l.place-iterator ≡ l.initial.all.items ++ map (place_in l.index) (keys l.cells)

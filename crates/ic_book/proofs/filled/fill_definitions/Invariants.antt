@@ -1,5 +1,0 @@
-use Rattle.ic_book.proofs.FilledLemmas.{DefinitionsTo}
-use Rattle.ic_book.proofs.filled.fill_definitions.Given as goal
-
-abbrev pub invariant-loop-index : goal.invariant-loop-index
-invariant-loop-index l = DefinitionsTo l.tables l.records l.fn.contents l.index l.contents

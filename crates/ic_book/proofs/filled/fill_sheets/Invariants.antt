@@ -1,5 +1,0 @@
-use Rattle.ic_book.proofs.FilledLemmas.{SheetsTo}
-use Rattle.ic_book.proofs.filled.fill_sheets.Given as goal
-
-abbrev pub invariant-loop-index : goal.invariant-loop-index
-invariant-loop-index l = SheetsTo l.tables l.numbers l.worksheets l.fn.contents l.index l.contents

@@ -1,0 +1,17 @@
+pub mod CopiedContents
+pub mod CopiedDefinitions
+pub mod CopiedHeld
+pub mod CopiedSteps
+pub mod LookUpLemmas
+pub mod MentioningLemmas
+pub mod OwnDefinitions
+pub mod OwnTextLemmas
+pub mod SiteTouched
+pub mod SitesUpdate
+pub mod SitesWhole
+pub mod SparedBodies
+pub mod TypedSteps
+pub mod UpdatedChecks
+pub mod UpdatedDoes
+pub mod UpdatedRules
+pub mod UpdatedTopics

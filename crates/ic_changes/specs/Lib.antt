@@ -1,0 +1,4 @@
+pub mod Copied
+pub mod LookUps
+pub mod Mentioning
+pub mod Updated

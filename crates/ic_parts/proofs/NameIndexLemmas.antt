@@ -1,0 +1,92 @@
+-- What finds sheets and definitions by their names still does, where neither names nor keys change; and what it finds.
+use Rattle.std.proofs.Common.{◌≡◌, ◌∙◌, ℕ, List, [], ◌∷◌, Bool, true, false, Option, Some, bytes_eq, cond, find, map, option_map, refl, sym, ap, ap₂}
+use Rattle.ic_laws.proofs.core.Lists.{updated_unseen}
+use Rattle.ic_laws.specs.Changes.{Change}
+use Rattle.ic_laws.specs.CoreBook.{Definition, spelling_of}
+use Rattle.ic_laws.specs.CoreStep.{updated_at}
+use Rattle.ic_laws.specs.Name.{fold}
+use Rattle.ic_laws.specs.Scene.{key_of}
+use Rattle.ic_laws.specs.declared.scene.SheetName.{SheetName}
+use Rattle.ic_laws.specs.declared.tree.NameKey.{NameKey}
+use Rattle.ic_definitions.specs.Named.{key_in}
+use Rattle.ic_pool.proofs.KeyLemmas.{bytes_eq-flip}
+use Rattle.ic_sheets.proofs.KeptLemmas.{finds_same}
+use Rattle.ic_sheets.proofs.SearchLemmas.{ids, names}
+use Rattle.ic_sheets.specs.Rewriting.{changed_pool, sheets_of}
+use Rattle.ic_sheets.specs.Search.{id_of}
+use Rattle.ic_sheets.specs.Sheet.{Sheet, sheet_of}
+use Rattle.ic_sheets.specs.declared.sheet.Sheet.{Sheet as HeldSheet}
+use Rattle.ic_parts.specs.Names.{IsIndexed}
+use Rattle.ic_parts.specs.Scene.{named}
+use Rattle.ic_parts.specs.declared.names.NameIndex.{NameIndex}
+
+-- ---- other sheets of the same names and ids
+
+module _ (index : NameIndex) (ws now : List HeldSheet) (ds : List Definition) (was : IsIndexed index ws ds) where
+  pub indexed_same : names now ≡ names ws → ids now ≡ ids ws → IsIndexed index now ds
+  indexed_same same_names same_ids = record { sheets = finds_same index.sheets ws now was.sheets same_names same_ids; names = was.names }
+
+  -- one of them holds something else
+  pub indexed_updated : (change : HeldSheet → HeldSheet) (at : ℕ) → now ≡ updated_at change at ws → ((s : HeldSheet) → named (change s) ≡ named s) → IsIndexed index now ds
+  indexed_updated change at is same =
+      indexed_same
+      (ap names is ∙ updated_unseen (λ (s : HeldSheet). s.name) change (λ s. ap (λ (m : SheetName). m.name) (same s)) at ws)
+      (ap ids is ∙ updated_unseen (λ (s : HeldSheet). s.id) change (λ s. ap (λ (m : SheetName). m.id) (same s)) at ws)
+
+  -- they are the same beside what finds their formulas
+  pub indexed_seen : sheets_of now ≡ sheets_of ws → IsIndexed index now ds
+  indexed_seen same = indexed_same (seen_name now ∙ ap (map (λ (s : Sheet). s.name)) same ∙ sym (seen_name ws)) (seen_id now ∙ ap (map (λ (s : Sheet). s.id)) same ∙ sym (seen_id ws))
+    where
+      seen_name : (xs : List HeldSheet) → names xs ≡ map (λ (s : Sheet). s.name) (sheets_of xs)
+      seen_name [] = refl
+      seen_name (x ∷ xs) = ap (λ (rest : List (List ℕ)). x.name ∷ rest) (seen_name xs)
+
+      seen_id : (xs : List HeldSheet) → ids xs ≡ map (λ (s : Sheet). s.id) (sheets_of xs)
+      seen_id [] = refl
+      seen_id (x ∷ xs) = ap (λ (rest : List ℕ). x.id ∷ rest) (seen_id xs)
+
+  -- a change went over their formulas
+  pub indexed_changed : (change : Change) → sheets_of now ≡ map (changed_pool change) (sheets_of ws) → IsIndexed index now ds
+  indexed_changed change made = indexed_same (changed_name now ws made) (changed_id now ws made)
+    where
+      changed_name : (xs ys : List HeldSheet) → sheets_of xs ≡ map (changed_pool change) (sheets_of ys) → names xs ≡ names ys
+      changed_name [] [] e = refl
+      changed_name [] (y ∷ ys) e = cc
+      changed_name (x ∷ xs) [] e = cc
+      changed_name (x ∷ xs) (y ∷ ys) e =
+          let first : sheet_of x ≡ changed_pool change (sheet_of y) = cc in
+          let rest : sheets_of xs ≡ map (changed_pool change) (sheets_of ys) = cc in
+          ap₂ (λ (n : List ℕ) (ns : List (List ℕ)). n ∷ ns) (ap (λ (s : Sheet). s.name) first) (changed_name xs ys rest)
+
+      changed_id : (xs ys : List HeldSheet) → sheets_of xs ≡ map (changed_pool change) (sheets_of ys) → ids xs ≡ ids ys
+      changed_id [] [] e = refl
+      changed_id [] (y ∷ ys) e = cc
+      changed_id (x ∷ xs) [] e = cc
+      changed_id (x ∷ xs) (y ∷ ys) e =
+          let first : sheet_of x ≡ changed_pool change (sheet_of y) = cc in
+          let rest : sheets_of xs ≡ map (changed_pool change) (sheets_of ys) = cc in
+          ap₂ (λ (n : ℕ) (ns : List ℕ). n ∷ ns) (ap (λ (s : Sheet). s.id) first) (changed_id xs ys rest)
+
+-- ---- contents of which the formulas can mention the same
+
+pub named_names : (ws : List HeldSheet) → map (λ (m : SheetName). m.name) (map named ws) ≡ names ws
+named_names [] = refl
+named_names (s ∷ ws) = ap (λ (rest : List (List ℕ)). s.name ∷ rest) (named_names ws)
+
+pub named_ids : (ws : List HeldSheet) → map (λ (m : SheetName). m.id) (map named ws) ≡ ids ws
+named_ids [] = refl
+named_ids (s ∷ ws) = ap (λ (rest : List ℕ). s.id ∷ rest) (named_ids ws)
+
+pub spelled_keys : (ds : List Definition) → map key_of (map spelling_of ds) ≡ map key_in ds
+spelled_keys [] = refl
+spelled_keys (d ∷ ds) = ap (λ (rest : List NameKey). key_in d ∷ rest) (spelled_keys ds)
+
+-- ---- what it finds, as a plain search tells it
+
+pub sheet_found : (ws : List HeldSheet) (key : List ℕ) → id_of key ws ≡ option_map (λ (s : Sheet). s.id) (find (λ (s : Sheet). bytes_eq (fold s.name) key) (map sheet_of ws))
+sheet_found [] key = refl
+sheet_found (s ∷ ws) key = ap₂ (λ (b : Bool) (rest : Option ℕ). cond b (Some s.id) rest) (bytes_eq-flip key (fold s.name)) (sheet_found ws key) ∙ step (bytes_eq (fold s.name) key)
+  where
+    step : (b : Bool) → cond b (Some s.id) (option_map (λ (x : Sheet). x.id) (find (λ (x : Sheet). bytes_eq (fold x.name) key) (map sheet_of ws))) ≡ option_map (λ (x : Sheet). x.id) (cond b (Some (sheet_of s)) (find (λ (x : Sheet). bytes_eq (fold x.name) key) (map sheet_of ws)))
+    step true = refl
+    step false = refl

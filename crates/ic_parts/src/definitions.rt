@@ -1,0 +1,3 @@
+//! Definitions come and go, and are listed.
+
+pub mod body;

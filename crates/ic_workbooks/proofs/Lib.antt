@@ -1,0 +1,14 @@
+pub mod AcceptedWorkbook
+pub mod AskedLemmas
+pub mod AskedSheets
+pub mod FilledLemmas
+pub mod FirstLemmas
+pub mod HandedInLemmas
+pub mod MeetsLemmas
+pub mod NameIndexLemmas
+pub mod NumberedLemmas
+pub mod ReferLemmas
+pub mod SameTexts
+pub mod SeenGrids
+pub mod TakenAgain
+pub mod WorkbookLemmas
