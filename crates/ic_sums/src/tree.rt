@@ -204,11 +204,7 @@ impl<'b, 'm> Evaluator<'b, 'm> {
 /// The place of a corner of a reference in a cell to a sheet, if there is such a sheet and it has the place.
 fn corner(at: Place, sheet: Option<u32>, part: RefPart) -> Option<Place> {
     let (row, column) = (line(at.1, part.row)?, line(at.2, part.column)?);
-    if is_valid_row(row) && is_valid_column_number(column) {
-        Some((sheet?, row, column))
-    } else {
-        None
-    }
+    (is_valid_row(row) && is_valid_column_number(column)).then_some((sheet?, row, column))
 }
 
 /// The row or the column of a position.
