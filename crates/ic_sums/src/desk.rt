@@ -128,6 +128,5 @@ fn push_cell(text: &mut String, model: &Model<'_>, cell: &CellIndex) -> Result<(
     cell.column.write(text)?;
     formula.write(text)?;
     value.write(text)?;
-    push_char(text, '\n')?;
-    Ok(())
+    Ok(push_char(text, '\n')?)
 }

@@ -53,41 +53,40 @@ impl<'b, 'm> Evaluator<'b, 'm> {
     /// What a tree gives; where it is summed, the sum of the numbers in an area.
     #[cycle(value)]
     fn value(&mut self, tree: &Bound, summed: bool) -> Gives {
-        match tree {
-            Tree::Num(amount) => Ok(FormulaValue::Number(*amount)),
-            Tree::Str(text) => Ok(FormulaValue::Text(Boxed::from_str(self.alloc, text.as_str())?)),
-            Tree::Bool(truth) => Ok(FormulaValue::Boolean(*truth)),
-            Tree::Err(fault) => Ok(error(*fault)),
-            Tree::Empty => Ok(number(Some(0))),
-            Tree::Reference(sheet, place) => self.area(self.at, sheet, place.place(), summed),
+        Ok(match tree {
+            Tree::Num(amount) => FormulaValue::Number(*amount),
+            Tree::Str(text) => FormulaValue::Text(Boxed::from_str(self.alloc, text.as_str())?),
+            Tree::Bool(truth) => FormulaValue::Boolean(*truth),
+            Tree::Err(fault) => error(*fault),
+            Tree::Empty => number(Some(0)),
+            Tree::Reference(sheet, place) => self.area(self.at, sheet, place.place(), summed)?,
             Tree::Word(NameMention::Name(key)) | Tree::Local(_, NameMention::Name(key)) => {
-                self.defined(key.as_ref(), summed)
+                self.defined(key.as_ref(), summed)?
             }
-            Tree::Word(_) | Tree::Local(_, _) => Ok(error(Error::NAME)),
+            Tree::Word(_) | Tree::Local(_, _) => error(Error::NAME),
             Tree::Prefix(PrefixSign::Minus, x) => {
                 let value = self.value(x.as_ref(), false)?;
-                Ok(combined(BinarySign::Minus, &number(Some(0)), &value))
+                combined(BinarySign::Minus, &number(Some(0)), &value)
             }
-            Tree::Paren(x) | Tree::Prefix(_, x) => self.value(x.as_ref(), summed),
+            Tree::Paren(x) | Tree::Prefix(_, x) => self.value(x.as_ref(), summed)?,
             Tree::Percent(x) => {
                 let value = self.value(x.as_ref(), false)?;
-                Ok(combined(BinarySign::Over, &value, &number(Some(100 * ONE))))
+                combined(BinarySign::Over, &value, &number(Some(100 * ONE)))
             }
             Tree::Binary(sign, x, y) => {
                 let left = self.value(x.as_ref(), false)?;
-                let right = self.value(y.as_ref(), false)?;
-                Ok(combined(*sign, &left, &right))
+                combined(*sign, &left, &self.value(y.as_ref(), false)?)
             }
             Tree::Fun(number, arguments) => {
                 let english = self.model.tables().get_default_language();
                 match word(english, WordKind::Function, *number) {
-                    Some("SUM") => self.sum(arguments.as_slice()),
-                    Some("IF") => self.condition(arguments.as_slice(), summed),
-                    _ => Ok(error(Error::NIMPL)),
+                    Some("SUM") => self.sum(arguments.as_slice())?,
+                    Some("IF") => self.condition(arguments.as_slice(), summed)?,
+                    _ => error(Error::NIMPL),
                 }
             }
-            _ => Ok(error(Error::NIMPL)),
-        }
+            _ => error(Error::NIMPL),
+        })
     }
 
     /// The sum of what these give.
@@ -95,8 +94,7 @@ impl<'b, 'm> Evaluator<'b, 'm> {
     fn sum(&mut self, arguments: &[Bound]) -> Gives {
         let mut total = number(Some(0));
         for argument in arguments {
-            let value = self.value(argument, true)?;
-            total = combined(BinarySign::Plus, &total, &value);
+            total = combined(BinarySign::Plus, &total, &self.value(argument, true)?);
         }
         Ok(total)
     }

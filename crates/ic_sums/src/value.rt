@@ -7,11 +7,9 @@ use ic_laws::{Amount, BinarySign, Error, agree};
 pub(crate) const ONE: i128 = 1_000_000_000;
 
 /// An error of which nothing is noted.
-pub(crate) fn error(error: Error) -> FormulaValue {
-    FormulaValue::Error {
-        ei: error,
-        note: ErrorNote::empty(),
-    }
+pub(crate) fn error(ei: Error) -> FormulaValue {
+    let note = ErrorNote::empty();
+    FormulaValue::Error { ei, note }
 }
 
 /// The number of so many units, or the error of one that is no amount.
