@@ -30,8 +30,13 @@ pub fn evaluate(alloc: Global, model: &mut Model<'_>) -> Result<(), BookError>
     let mut marks = BTreeMap::new(alloc);
     let mut path = Vec::new(alloc);
     for cell in cells {
-        marks.insert((cell.index, cell.row, cell.column), Mark::New)?;
-        path.push((cell.index, cell.row, cell.column))?;
+        let at = (cell.index, cell.row, cell.column);
+        let mark = match model.formula_at(at.0, at.1, at.2) {
+            Ok(Some(_)) => Mark::New,
+            _ => Mark::Known,
+        };
+        marks.insert(at, mark)?;
+        path.push(at)?;
     }
     for _ in 0..TURNS {
         let Some(at) = path.last().copied() else {

@@ -16,7 +16,7 @@ use std::collections::BTreeMap;
 /// The index of a sheet, from 0, and a row and a column, from 1.
 pub(crate) type Place = (u32, i32, i32);
 
-/// What is known of a cell: nothing, that its formula waits for others, or that the book has its value.
+/// What is known of a cell: nothing of its formula's value, that it waits for others, or that the book has the value.
 #[derive(Clone, Copy)]
 pub(crate) enum Mark {
     New,
