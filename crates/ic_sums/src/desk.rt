@@ -1,16 +1,14 @@
 //! What the program does with its words.
-ghost use Rattle.std.specs.Prelude.{◌≡◌, ◌⊎◌, ◌↔◌, ◌+◌, ◌++◌, ◌<◌, ◌≤◌, ◌^◌, [], Some, true, chars, flat_map, length, string_bytes, IfOk, IsNone, IsSome, IsSomeAnd, OnOk};
+ghost use Rattle.std.specs.Prelude.{◌≡◌, ◌⊎◌, ◌↔◌, ◌+◌, ◌++◌, ◌<◌, ◌≤◌, ◌^◌, [], true, chars, length, string_bytes, IfOk, IsNone, IsSome, IsSomeAnd, OnOk};
 ghost use Rattle.ic_lines.specs.Bytes.{HasFault, IfTold};
-ghost use Rattle.ic_machine.specs.Fields.{fields_of_place, string_only};
 ghost use Rattle.ic_parts.specs.Whole.{whole_of};
 ghost use Rattle.ic_run.specs.Desk.{start_refusal};
 ghost use Rattle.ic_run.specs.Make.{made_setting};
-ghost use Rattle.ic_sums.specs.Told.{AppendsValues, AppendsValuesFront, TellsBook, WritesBook, WritesBookFront, WritesValues, WritesValuesFront, told_cell, told_line, words};
+ghost use Rattle.ic_sums.specs.Told.{AppendsValues, AppendsValuesFront, TellsBook, WritesValues, WritesValuesFront, told_cell};
 
 use crate::evaluation::evaluate;
 use ic_book::{BookError, Model};
 use ic_cells::CellIndex;
-use ic_laws::OutOfMemory;
 use ic_laws::scan::{push_char, push_text};
 use ic_lines::{Sink, Source};
 use ic_run::{book_after, written};
@@ -96,19 +94,6 @@ fn tell<K: Sink>(alloc: Global, model: &mut Model<'_>, sink: &mut K) -> u8
     if evaluate(alloc, model).is_err() {
         return 6;
     }
-    tell_values(alloc, model, sink)
-}
-
-/// Writes the formulas of a book with their values. The status is as that of `tell`.
-fn tell_values<K: Sink>(alloc: Global, model: &Model<'_>, sink: &mut K) -> u8
-    ensures written { result ≡ 0 → IfTold (K.written sink.old) (K.written sink.new)
-        (WritesBook (whole_of model.now.book)) }
-    ensures front { result ≡ 4 → IfTold (K.written sink.old) (K.written sink.new)
-        (WritesBookFront (whole_of model.now.book)) }
-    ensures nothing { result ≡ 6 → sink.new ≡ sink.old }
-    ensures write_fault { result ≡ 4 → HasFault (K.faults sink.old) (K.faults sink.new) }
-    ensures which { (result ≡ 0) ⊎ ((result ≡ 4) ⊎ (result ≡ 6)) }
-{
     match told(alloc, model) {
         Ok(text) => written(sink, text.as_bytes(), 0),
         Err(_) => 6,
@@ -120,17 +105,9 @@ fn told(alloc: Global, model: &Model<'_>) -> Result<String, BookError>
     ensures { IfOk result (λ text. TellsBook (whole_of model.now.book)
         (chars (string_bytes text))) }
 {
-    let cells = model.get_all_cells()?;
-    lines_of(alloc, model, &cells)
-}
-
-/// The lines of those of these cells that have a formula.
-fn lines_of(alloc: Global, model: &Model<'_>, cells: &[CellIndex]) -> Result<String, BookError>
-    ensures { IfOk result (λ text. chars (string_bytes text)
-        ≡ flat_map (told_cell (whole_of model.now.book)) cells.now) }
-{
     let mut text = String::new(alloc);
-    for cell in cells {
+    let cells = model.get_all_cells()?;
+    for cell in &cells {
         push_cell(&mut text, model, cell)?;
     }
     Ok(text)
@@ -145,35 +122,11 @@ fn push_cell(text: &mut String, model: &Model<'_>, cell: &CellIndex) -> Result<(
         return Ok(());
     };
     let value = model.get_formatted_cell_value(cell.index, cell.row, cell.column)?;
-    push_line(text, cell, &formula, &value)?;
-    Ok(())
-}
-
-/// Appends the line of a cell with this formula and this value.
-fn push_line(
-    text: &mut String,
-    cell: &CellIndex,
-    formula: &String,
-    value: &String,
-) -> Result<(), OutOfMemory>
-    ensures { OnOk result (chars (string_bytes text.new) ≡ chars (string_bytes text.old)
-        ++ told_line (fields_of_place cell.now) (string_only formula.now) (string_only value.now)) }
-{
     push_text(text, "cell")?;
-    push_place(text, cell)?;
-    formula.write(text)?;
-    value.write(text)?;
-    push_char(text, '\n')?;
-    Ok(())
-}
-
-/// Appends the index of the sheet, the row and the column of a cell, each behind a tab.
-fn push_place(text: &mut String, cell: &CellIndex) -> Result<(), OutOfMemory>
-    ensures { OnOk result (chars (string_bytes text.new) ≡ chars (string_bytes text.old)
-        ++ words (fields_of_place cell.now)) }
-{
     cell.index.write(text)?;
     cell.row.write(text)?;
     cell.column.write(text)?;
-    Ok(())
+    formula.write(text)?;
+    value.write(text)?;
+    Ok(push_char(text, '\n')?)
 }

@@ -1,127 +1,83 @@
 //! The values of all formulas of a book.
-ghost use Rattle.std.specs.Prelude.{◌≡◌};
+ghost use Rattle.std.specs.Prelude.{◌≡◌, IfErr};
 ghost use Rattle.ic_parts.specs.Book.{core_of};
 ghost use Rattle.ic_parts.specs.Whole.{whole_of};
+ghost use Rattle.ic_parts.specs.declared.error.BookError.TheVariants as errors;
 ghost use Rattle.ic_sums.specs.Evaluated.{OnlyValues};
 
-use crate::cells::{Cells, Place, State, constants};
-use crate::tree::Evaluator;
-use crate::value::{Fault, Value};
+use crate::tree::{Evaluator, Mark, Place};
 use ic_book::{BookError, Model};
-use ic_cells::{ErrorNote, FormulaValue};
-use ic_laws::{Amount, Boxed, Error};
+use ic_laws::OutOfMemory;
 use std::alloc::Global;
+use std::collections::BTreeMap;
 
 /// More turns than any machine makes.
 const TURNS: u64 = u64::MAX;
 
-/// The value of the formula in a cell.
-#[derive(Drop)]
-struct Found {
-    place: Place,
-    value: FormulaValue,
-}
-
 /// Gives each formula of a book its value. Where memory runs out some formulas have theirs, and the others don't.
 ///
 /// Whatever it answers, only values of formulas differ from before, and what their arrays gave to other cells: each other cell
-/// is as it was, and so are all formulas and all else that the book holds.
+/// is as it was, and so are all formulas and all else that the book holds. The only error is `OutOfMemory`.
 pub fn evaluate(alloc: Global, model: &mut Model<'_>) -> Result<(), BookError>
     ensures only_values { OnlyValues (whole_of model.old.book) (whole_of model.new.book) }
     ensures core { core_of model.new.book ≡ core_of model.old.book }
     ensures looks_up { model.new.has_all ≡ model.old.has_all }
+    ensures memory { IfErr result (λ e. e ≡ errors.OutOfMemory) }
 {
-    for found in found_values(alloc, model)? {
-        let Found { place, value } = found;
-        put(model, place.0, place.1, place.2, value)?;
+    let Ok(cells) = model.get_all_cells() else {
+        return Err(BookError::OutOfMemory);
+    };
+    let mut marks = BTreeMap::new(alloc);
+    let mut path = Vec::new(alloc);
+    for cell in cells {
+        let at = (cell.index, cell.row, cell.column);
+        let mark = match model.formula_at(at.0, at.1, at.2) {
+            Ok(Some(_)) => Mark::New,
+            _ => Mark::Known,
+        };
+        marks.insert(at, mark)?;
+        path.push(at)?;
+    }
+    for _ in 0..TURNS {
+        let Some(at) = path.last().copied() else {
+            break;
+        };
+        look_at(alloc, model, at, &mut marks, &mut path)?;
     }
     Ok(())
 }
 
-/// Gives a formula its value.
-fn put(
+/// Looks at the last cell of the path. Its formula gets its value, or the cells that it needs come behind it.
+fn look_at(
+    alloc: Global,
     model: &mut Model<'_>,
-    sheet: u32,
-    row: i32,
-    column: i32,
-    value: FormulaValue,
-) -> Result<(), BookError>
+    at: Place,
+    marks: &mut BTreeMap<Place, Mark>,
+    path: &mut Vec<Place>,
+) -> Result<(), OutOfMemory>
     ensures only_values { OnlyValues (whole_of model.old.book) (whole_of model.new.book) }
     ensures looks_up { model.new.has_all ≡ model.old.has_all }
 {
-    model.put_formula_value(sheet, row, column, value)
-}
-
-/// The values of the formulas of a book.
-fn found_values(alloc: Global, model: &Model<'_>) -> Result<Vec<Found>, BookError> {
-    let constants = constants(alloc, model)?;
-    let cells = Cells::new(alloc, model, constants.as_slice())?;
-    let places = cells.formulas(alloc)?;
-    let mut evaluator = Evaluator::new(alloc, cells, model);
-    find_all(alloc, &mut evaluator, places.as_slice())?;
-    let mut found = Vec::new(alloc);
-    for place in places {
-        let value = formula_value(alloc, evaluator.cells.state(place))?;
-        found.push(Found { place, value })?;
+    let length = path.len();
+    let value = Evaluator {
+        alloc,
+        model,
+        at,
+        marks,
+        path,
     }
-    Ok(found)
-}
-
-/// Finds the values of the formulas at these places. The last place of the path is looked at: where its formula needs others,
-/// they come behind it, and it is looked at again when they are known.
-fn find_all(
-    alloc: Global,
-    evaluator: &mut Evaluator<'_, '_>,
-    places: &[Place],
-) -> Result<(), BookError> {
-    let mut path = Vec::from_slice(alloc, places)?;
-    for _turn in 0..TURNS {
-        let Some(place) = path.last().copied() else {
-            return Ok(());
-        };
-        match evaluator.cells.state(place) {
-            State::Known(_) => {
-                path.pop();
-            }
-            State::New(formula) | State::Open(formula) => {
-                let length = path.len();
-                let value = evaluator.formula(place, formula, &mut path)?;
-                let state = if path.len() == length {
-                    State::Known(value)
-                } else {
-                    State::Open(formula)
-                };
-                evaluator.cells.note(place, state)?;
-            }
-        }
+    .formula()?;
+    if path.len() > length {
+        marks.insert(at, Mark::Waits)?;
+        return Ok(());
     }
-    Ok(())
-}
-
-/// The value of a formula as its cell keeps it.
-fn formula_value(alloc: Global, state: State<'_>) -> Result<FormulaValue, BookError> {
-    match state {
-        State::Known(Value::Empty) => Ok(amount_value(0)),
-        State::Known(Value::Number(units)) => Ok(amount_value(units)),
-        State::Known(Value::Boolean(truth)) => Ok(FormulaValue::Boolean(truth)),
-        State::Known(Value::Text(text)) => Ok(FormulaValue::Text(Boxed::from_str(alloc, text)?)),
-        State::Known(Value::Fault(Fault::Error(error))) => Ok(error_value(error)),
-        _ => Ok(FormulaValue::Unevaluated),
-    }
-}
-
-/// A number of so many units.
-fn amount_value(units: i128) -> FormulaValue {
-    match Amount::from_units(units) {
-        Some(amount) => FormulaValue::Number(amount),
-        None => error_value(Error::NUM),
-    }
-}
-
-/// An error of which nothing is noted.
-fn error_value(error: Error) -> FormulaValue {
-    FormulaValue::Error {
-        ei: error,
-        note: ErrorNote::empty(),
+    path.pop();
+    marks.insert(at, Mark::Known)?;
+    let Some(value) = value else {
+        return Ok(());
+    };
+    match model.put_formula_value(at.0, at.1, at.2, value) {
+        Err(BookError::OutOfMemory) => Err(OutOfMemory),
+        _ => Ok(()),
     }
 }

@@ -2,11 +2,10 @@
 //!
 //! `evaluate` gives each formula of a book its value: numbers with `+ - * / %` and comparisons, `SUM` and `IF`, references to
 //! cells and areas of any sheet, and definitions that are references. What it doesn't know is the error `NIMPL`, a circle
-//! `CIRC`. Its clause says what else of the book may change: nothing. `sums_desk` does it for the book that the lines of a
-//! source leave, and is what the program does with its words.
+//! `CIRC`. Its clauses say what else of the book may change, nothing, and its only error, that memory ran out. `sums_desk` does
+//! it for the book that the lines of a source leave, and is what the program does with its words.
 #![tactic(auto)]
 
-mod cells;
 mod desk;
 mod evaluation;
 mod tree;

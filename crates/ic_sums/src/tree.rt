@@ -1,221 +1,214 @@
 //! The value of a formula, by those of the cells that it needs.
 
-use crate::cells::{Cells, Place};
-use crate::value::{Area, ONE, Value, combined, error};
+use crate::value::{ONE, combined, error, number};
 use ic_book::{BookError, Model};
+use ic_cells::{CellType, CellValue, FormulaValue};
+use ic_input::error_at;
 use ic_laws::{
-    BinarySign, Bound, Error, Formula, LAST_COLUMN, LAST_ROW, NameKey, NameMention,
-    Place as Reference, Position, PrefixSign, RefPart, SheetMention, Text, Tree, WordKind,
+    BinarySign, Bound, Boxed, Error, Formula, NameKey, NameMention, OutOfMemory,
+    Place as Reference, Position, PrefixSign, RefPart, SheetMention, Tree, WordKind,
 };
-use ic_tables::{Tables, find_word};
+use ic_refs::{is_valid_column_number, is_valid_row};
+use ic_tables::{find_word, word};
 use std::alloc::Global;
+use std::collections::BTreeMap;
 
-/// What formulas are evaluated by: the cells, the book, and the numbers of the functions that are known.
-#[derive(Drop)]
-pub(crate) struct Evaluator<'b, 'm> {
-    alloc: Global,
-    pub cells: Cells<'b>,
-    model: &'b Model<'m>,
-    sum: Option<usize>,
-    condition: Option<usize>,
+/// The index of a sheet, from 0, and a row and a column, from 1.
+pub(crate) type Place = (u32, i32, i32);
+
+/// What is known of a cell: nothing of its formula's value, that it waits for others, or that the book has the value.
+#[derive(Clone, Copy)]
+pub(crate) enum Mark {
+    New,
+    Waits,
+    Known,
 }
 
+/// What a formula is evaluated by: the book, its place, what is known of the cells, and where those go that it needs first.
+#[derive(Drop)]
+pub(crate) struct Evaluator<'b, 'm> {
+    pub alloc: Global,
+    pub model: &'b Model<'m>,
+    pub at: Place,
+    pub marks: &'b BTreeMap<Place, Mark>,
+    pub path: &'b mut Vec<Place>,
+}
+
+/// The value that a formula or a part of one gives, where memory doesn't run out.
+type Gives = Result<FormulaValue, OutOfMemory>;
+
 impl<'b, 'm> Evaluator<'b, 'm> {
-    /// By these cells of a book.
-    pub(crate) fn new(alloc: Global, cells: Cells<'b>, model: &'b Model<'m>) -> Evaluator<'b, 'm> {
-        let english = model.tables().get_default_language();
-        Evaluator {
-            alloc,
-            cells,
-            model,
-            sum: find_word(english, WordKind::Function, "SUM"),
-            condition: find_word(english, WordKind::Function, "IF"),
+    /// The value of the formula in the cell, if it has one that isn't known. Where it needs others first, they are put at the end
+    /// of the path, and the value counts for nothing.
+    pub(crate) fn formula(mut self) -> Result<Option<FormulaValue>, OutOfMemory> {
+        let found = self.model.formula_at(self.at.0, self.at.1, self.at.2);
+        match (self.marks.get(&self.at), found) {
+            (Some(Mark::Known), _) => Ok(None),
+            (_, Ok(Some(Formula::Tree(tree)))) => Ok(Some(self.value(tree, false)?)),
+            (_, Ok(Some(Formula::Raw(_)))) => Ok(Some(error(Error::ERROR))),
+            _ => Ok(None),
         }
     }
 
-    /// The value of the formula in the cell at a place. Formulas that have to be looked at first are put behind `path`.
-    pub(crate) fn formula(
-        &self,
-        at: Place,
-        formula: &'b Formula,
-        path: &mut Vec<Place>,
-    ) -> Result<Value<'b>, BookError> {
-        match formula {
-            Formula::Tree(tree) => self.single(at, tree, path),
-            Formula::Raw(_) => Ok(error(Error::ERROR)),
-        }
-    }
-
-    /// What a tree gives, as one value.
+    /// What a tree gives; where it is summed, the sum of the numbers in an area.
     #[cycle(value)]
-    fn single(
-        &self,
-        at: Place,
-        tree: &'b Bound,
-        path: &mut Vec<Place>,
-    ) -> Result<Value<'b>, BookError> {
-        match self.value(at, tree, path)? {
-            Value::Area(area) if area.is_cell() => {
-                self.cells.value((area.sheet, area.row, area.column), path)
+    fn value(&mut self, tree: &Bound, summed: bool) -> Gives {
+        Ok(match tree {
+            Tree::Num(amount) => FormulaValue::Number(*amount),
+            Tree::Str(text) => FormulaValue::Text(Boxed::from_str(self.alloc, text.as_str())?),
+            Tree::Bool(truth) => FormulaValue::Boolean(*truth),
+            Tree::Err(fault) => error(*fault),
+            Tree::Empty => number(Some(0)),
+            Tree::Reference(sheet, place) => self.area(self.at, sheet, place.place(), summed)?,
+            Tree::Word(NameMention::Name(key)) | Tree::Local(_, NameMention::Name(key)) => {
+                self.defined(key.as_ref(), summed)?
             }
-            Value::Area(_) => Ok(error(Error::VALUE)),
-            value => Ok(value),
-        }
-    }
-
-    /// What a tree gives, which may be an area.
-    #[cycle(value)]
-    fn value(
-        &self,
-        at: Place,
-        tree: &'b Bound,
-        path: &mut Vec<Place>,
-    ) -> Result<Value<'b>, BookError> {
-        match tree {
-            Tree::Num(amount) => Ok(Value::Number(amount.units())),
-            Tree::Str(text) => Ok(Value::Text(text.as_str())),
-            Tree::Bool(truth) => Ok(Value::Boolean(*truth)),
-            Tree::Err(fault) => Ok(error(*fault)),
-            Tree::Empty => Ok(Value::Empty),
-            Tree::Reference(sheet, place) => Ok(self.area(at, sheet, place.place())),
-            Tree::Word(name) | Tree::Local(_, name) => self.named(name),
-            Tree::Paren(x) => self.value(at, x.as_ref(), path),
+            Tree::Word(_) | Tree::Local(_, _) => error(Error::NAME),
             Tree::Prefix(PrefixSign::Minus, x) => {
-                let value = self.single(at, x.as_ref(), path)?;
-                Ok(combined(BinarySign::Minus, Value::Number(0), value))
+                let value = self.value(x.as_ref(), false)?;
+                combined(BinarySign::Minus, &number(Some(0)), &value)
             }
-            Tree::Prefix(_, x) => self.single(at, x.as_ref(), path),
+            Tree::Paren(x) | Tree::Prefix(_, x) => self.value(x.as_ref(), summed)?,
             Tree::Percent(x) => {
-                let value = self.single(at, x.as_ref(), path)?;
-                Ok(combined(BinarySign::Over, value, Value::Number(100 * ONE)))
+                let value = self.value(x.as_ref(), false)?;
+                combined(BinarySign::Over, &value, &number(Some(100 * ONE)))
             }
             Tree::Binary(sign, x, y) => {
-                let left = self.single(at, x.as_ref(), path)?;
-                let right = self.single(at, y.as_ref(), path)?;
-                Ok(combined(*sign, left, right))
+                let left = self.value(x.as_ref(), false)?;
+                combined(*sign, &left, &self.value(y.as_ref(), false)?)
             }
-            Tree::Fun(number, arguments) if self.sum == Some(*number) => {
-                self.sum(at, arguments.as_slice(), path)
+            Tree::Fun(number, arguments) => {
+                let english = self.model.tables().get_default_language();
+                match word(english, WordKind::Function, *number) {
+                    Some("SUM") => self.sum(arguments.as_slice())?,
+                    Some("IF") => self.condition(arguments.as_slice(), summed)?,
+                    _ => error(Error::NIMPL),
+                }
             }
-            Tree::Fun(number, arguments) if self.condition == Some(*number) => {
-                self.condition(at, arguments.as_slice(), path)
-            }
-            _ => Ok(error(Error::NIMPL)),
-        }
+            _ => error(Error::NIMPL),
+        })
     }
 
-    /// The sum of what these give; of an area the numbers alone.
+    /// The sum of what these give.
     #[cycle(value)]
-    fn sum(
-        &self,
-        at: Place,
-        arguments: &'b [Bound],
-        path: &mut Vec<Place>,
-    ) -> Result<Value<'b>, BookError> {
-        let mut total = Value::Number(0);
+    fn sum(&mut self, arguments: &[Bound]) -> Gives {
+        let mut total = number(Some(0));
         for argument in arguments {
-            total = match self.value(at, argument, path)? {
-                Value::Area(area) => self.cells.total(total, area, path)?,
-                value => combined(BinarySign::Plus, total, value),
-            };
+            total = combined(BinarySign::Plus, &total, &self.value(argument, true)?);
         }
         Ok(total)
     }
 
     /// What the second of these gives where the first is true, and else the third.
     #[cycle(value)]
-    fn condition(
-        &self,
-        at: Place,
-        arguments: &'b [Bound],
-        path: &mut Vec<Place>,
-    ) -> Result<Value<'b>, BookError> {
+    fn condition(&mut self, arguments: &[Bound], summed: bool) -> Gives {
         let Some(test) = arguments.get(0) else {
             return Ok(error(Error::VALUE));
         };
-        let test = combined(
-            BinarySign::Unequal,
-            self.single(at, test, path)?,
-            Value::Number(0),
-        );
-        let Value::Boolean(holds) = test else {
-            return Ok(test);
-        };
-        match arguments.get(if holds { 1 } else { 2 }) {
-            Some(tree) => self.value(at, tree, path),
-            None => Ok(Value::Boolean(holds)),
+        let test = self.value(test, false)?;
+        match combined(BinarySign::Unequal, &test, &number(Some(0))) {
+            FormulaValue::Boolean(holds) => match arguments.get(if holds { 1 } else { 2 }) {
+                Some(tree) => self.value(tree, summed),
+                None => Ok(FormulaValue::Boolean(holds)),
+            },
+            fault => Ok(fault),
         }
     }
 
-    /// What a name means: the area that its definition refers to.
-    fn named(&self, name: &NameMention) -> Result<Value<'b>, BookError> {
-        match name {
-            NameMention::Name(key) => self.defined(key.as_ref()),
-            NameMention::Var(_) => Ok(error(Error::NIMPL)),
-            NameMention::Dangling(_) => Ok(error(Error::NAME)),
-        }
-    }
-
-    /// The area that the definition with this key refers to. What has no `$` counts from the first cell.
-    fn defined(&self, key: &NameKey) -> Result<Value<'b>, BookError> {
+    /// What the reference gives that is the definition with this key. What has no `$` counts from the first cell.
+    fn defined(&mut self, key: &NameKey, summed: bool) -> Gives {
         let name = String::from_str(self.alloc, key.name.as_str())?;
-        let Some(index) = self.model.name_index().names.get(&(name, key.scope)) else {
-            return Ok(error(Error::NAME));
-        };
-        match self.model.parsed_definition(*index) {
+        let model = self.model;
+        let index = model.name_index().names.get(&(name, key.scope));
+        match index.and_then(|index| model.parsed_definition(*index)) {
             Some(Formula::Tree(Tree::Reference(sheet, place))) => {
-                Ok(self.area((0, 1, 1), sheet, place.place()))
+                self.area((0, 1, 1), sheet, place.place(), summed)
             }
             _ => Ok(error(Error::NIMPL)),
         }
     }
 
-    /// The cells that a reference in a cell refers to.
-    fn area(&self, at: Place, sheet: &SheetMention, place: Reference) -> Value<'b> {
-        let Some(sheet) = self.sheet_of(at, sheet) else {
-            return error(Error::REF);
+    /// What the cells give that a reference in the cell at a place refers to.
+    fn area(&mut self, at: Place, sheet: &SheetMention, place: Reference, summed: bool) -> Gives {
+        let sheet = match sheet {
+            SheetMention::Own => Some(at.0),
+            SheetMention::Sheet(id) => self.model.sheet_index(*id),
+            SheetMention::Dangling(_) => None,
         };
         let (first, last) = match place {
             Reference::Cell(part) => (part, part),
             Reference::Range(first, last) => (first, last),
         };
-        match (corner(at, first), corner(at, last)) {
-            (Some(a), Some(b)) => Value::Area(Area {
-                sheet,
-                row: a.0.min(b.0),
-                column: a.1.min(b.1),
-                last_row: a.0.max(b.0),
-                last_column: a.1.max(b.1),
-            }),
-            _ => error(Error::REF),
+        match (corner(at, sheet, first), corner(at, sheet, last)) {
+            (Some(a), Some(b)) if summed || a == b => self.between(a, b, summed),
+            (Some(_), Some(_)) => Ok(error(Error::VALUE)),
+            _ => Ok(error(Error::REF)),
         }
     }
 
-    /// The index of the sheet that a reference mentions.
-    fn sheet_of(&self, at: Place, sheet: &SheetMention) -> Option<u32> {
-        match sheet {
-            SheetMention::Own => Some(at.0),
-            SheetMention::Sheet(id) => self.model.sheet_index(*id),
-            SheetMention::Dangling(_) => None,
+    /// The sum of the numbers between two corners, or what their one cell gives. A cell that isn't known is needed first, or
+    /// stands in a circle with this one if it waits.
+    fn between(&mut self, a: Place, b: Place, summed: bool) -> Gives {
+        let mut total = number(Some(0));
+        let marks = self.marks;
+        for (place, mark) in marks.range((a.0, a.1.min(b.1), a.2.min(b.2))..) {
+            if place.0 != a.0 || place.1 > a.1.max(b.1) {
+                break;
+            }
+            if a.2.min(b.2) <= place.2 && place.2 <= a.2.max(b.2) {
+                let value = match mark {
+                    Mark::Known => self.held(*place)?,
+                    _ => error(Error::CIRC),
+                };
+                if let Mark::New = mark {
+                    self.path.push(*place)?;
+                }
+                if !summed {
+                    return Ok(value);
+                }
+                if let FormulaValue::Number(_) | FormulaValue::Error { .. } = &value {
+                    total = combined(BinarySign::Plus, &total, &value);
+                }
+            }
+        }
+        Ok(total)
+    }
+
+    /// The value that the book holds at a place.
+    fn held(&self, at: Place) -> Gives {
+        match &self.model.get_cell_value_by_index(at.0, at.1, at.2) {
+            Ok(CellValue::Number(amount)) => Ok(FormulaValue::Number(*amount)),
+            Ok(CellValue::Boolean(truth)) => Ok(FormulaValue::Boolean(*truth)),
+            Ok(CellValue::String(text)) => match self.model.get_cell_type(at.0, at.1, at.2) {
+                Ok(CellType::ErrorValue) => Ok(error(self.error_named(text.as_str())?)),
+                _ => Ok(FormulaValue::Text(Boxed::from_str(self.alloc, text.as_str())?)),
+            },
+            Err(BookError::OutOfMemory) => Err(OutOfMemory),
+            _ => Ok(number(Some(0))),
         }
     }
-}
 
-/// The row and the column of a corner of a reference in a cell, if they are in the sheet.
-fn corner(at: Place, part: RefPart) -> Option<(i32, i32)> {
-    let row = line(at.1, part.row, LAST_ROW)?;
-    let column = line(at.2, part.column, LAST_COLUMN)?;
-    Some((row, column))
-}
-
-/// The row or the column of a position, up to the last one.
-fn line(from: i32, position: Position, last: i32) -> Option<i32> {
-    let line = match position {
-        Position::Abs(line) => line,
-        Position::Rel(by) => from.checked_add(by)?,
-    };
-    if line < 1 || line > last {
-        return None;
+    /// The error of a word in the language in force.
+    fn error_named(&self, word: &str) -> Result<Error, OutOfMemory> {
+        let Ok(code) = self.model.get_language() else {
+            return Err(OutOfMemory);
+        };
+        let language = self.model.tables().get_language(code.as_str()).ok();
+        let number = language.and_then(|it| find_word(it, WordKind::Error, word));
+        Ok(number.and_then(|n| error_at(n)).unwrap_or(Error::ERROR))
     }
-    Some(line)
+}
+
+/// The place of a corner of a reference in a cell to a sheet, if there is such a sheet and it has the place.
+fn corner(at: Place, sheet: Option<u32>, part: RefPart) -> Option<Place> {
+    let (row, column) = (line(at.1, part.row)?, line(at.2, part.column)?);
+    (is_valid_row(row) && is_valid_column_number(column)).then_some((sheet?, row, column))
+}
+
+/// The row or the column of a position.
+fn line(from: i32, position: Position) -> Option<i32> {
+    match position {
+        Position::Abs(line) => Some(line),
+        Position::Rel(by) => from.checked_add(by),
+    }
 }

@@ -4,8 +4,8 @@ use Rattle.ic_sums.specs.Evaluated.{OnlyValues}
 use Rattle.ic_sums.proofs.evaluation.evaluate.Given as goal
 
 -- only values differ so far
-abbrev pub invariant-loop-found : goal.invariant-loop-found
-invariant-loop-found l = record {
+abbrev pub invariant-loop : goal.invariant-loop
+invariant-loop l = record {
   only_values : OnlyValues (whole_of l.initial.model.book) (whole_of l.model.book);
   looks_up : l.model.has_all ≡ l.initial.model.has_all;
 }
