@@ -107,8 +107,8 @@ module _ (b : Book) where
       → LeavesSo Stands b (found_or InvalidSheet (option_map f (slice_get b.sheets index)))
   found_so Stands index f h = so_at Stands index (slice_get b.sheets index) refl f h
 
-  other_sheet : (index : ℕ) (old new : Sheet) (styles : List Style) → slice_get b.sheets index ≡ Some old → new.id ≡ old.id → new.name ≡ old.name → HasOtherSheet b (record (with_sheet b index new) { styles = styles })
-  other_sheet index old new styles there id name = record { index = index; old = old; new = new; styles = styles; there = there; id = id; name = name; is = refl }
+  other_sheet : (index : ℕ) (old new : Sheet) (more : List Style) → slice_get b.sheets index ≡ Some old → new.id ≡ old.id → new.name ≡ old.name → HasOtherSheet b (record (with_sheet b index new) { styles = more })
+  other_sheet index old new more there id name = record { index = index; old = old; new = new; styles = more; there = there; id = id; name = name; is = refl }
 
   put_grid : (index : ℕ) (sheet : Sheet) → slice_get b.sheets index ≡ Some sheet → (stepped : Stepped Grid) → LeavesSo HasOtherSheet b (put_in (with_sheet b index) (put_in (λ (grid : Grid). let s : Sheet = record sheet { grid = grid } in s) stepped))
   put_grid index sheet e (Ok done) = other_sheet index sheet (record sheet { grid = done.0 }) b.styles e refl refl
