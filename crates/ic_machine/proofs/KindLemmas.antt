@@ -1,5 +1,5 @@
 -- Each command leaves what its kind says.
-use Rattle.std.proofs.Common.{◌≡◌, ℕ, zero, suc, List, [], ◌∷◌, Bool, true, Option, Some, None, Ok, Err, refl, sym, ap}
+use Rattle.std.proofs.Common.{◌≡◌, ℕ, zero, suc, List, [], ◌∷◌, Bool, true, Option, Some, None, Ok, Err, refl, sym, ap, ◌∙◌}
 use Rattle.std.specs.FinMap as finite
 use Rattle.std.specs.Prelude.{option_map, slice_get}
 use Rattle.ic_cells.specs.Layout.{height_of, width_of}
@@ -61,32 +61,25 @@ module _ (b : Book) where
   leaves_found None causes fields = tt
   leaves_found (Some sheet) causes fields = leaves (first_refusal (causes sheet)) (fields sheet)
 
-  -- one on its grid, and one on its tab: what is put back is what was there
-  leaves_part : (o : Option Refusal) (index : ℕ) (sheet : Sheet) (fields : List Field) → slice_get b.sheets index ≡ Some sheet → Leaves b (put_in (with_sheet b index) (put_in (λ (grid : Grid). let s : Sheet = record sheet { grid = grid } in s) (unless o sheet.grid fields)))
-  leaves_part None index sheet fields e = ap (λ (ss : List Sheet). let c : Book = record b { sheets = ss } in c) (put_same index b.sheets sheet e)
-  leaves_part (Some refusal) index sheet fields e = tt
+  -- one on a part of it, which is put back as it was
+  back : {P : Type 0} (put : P → Sheet) (part : P) (o : Option Refusal) (index : ℕ) (sheet : Sheet) (fields : List Field) → put part ≡ sheet → slice_get b.sheets index ≡ Some sheet
+      → Leaves b (put_in (with_sheet b index) (put_in put (unless o part fields)))
+  back put part None index sheet fields same e =
+      ap (λ (ss : List Sheet). let c : Book = record b { sheets = ss } in c) (ap (λ (s : Sheet). updated_at (λ old. s) index b.sheets) same ∙ put_same index b.sheets sheet e)
+  back put part (Some refusal) index sheet fields same e = tt
 
-  leaves_tab : (o : Option Refusal) (index : ℕ) (sheet : Sheet) (fields : List Field) → slice_get b.sheets index ≡ Some sheet → Leaves b (put_in (with_sheet b index) (put_in (λ (tab : Tab). let s : Sheet = record sheet { tab = tab } in s) (unless o sheet.tab fields)))
-  leaves_tab None index sheet fields e = ap (λ (ss : List Sheet). let c : Book = record b { sheets = ss } in c) (put_same index b.sheets sheet e)
-  leaves_tab (Some refusal) index sheet fields e = tt
-
-  leaves_grid_of : (index : ℕ) (o : Option Sheet) → slice_get b.sheets index ≡ o → (causes : Grid → Causes) (fields : Grid → List Field)
-      → Leaves b (found_or InvalidSheet (option_map (λ (sheet : Sheet). put_in (with_sheet b index) (put_in (λ (grid : Grid). let s : Sheet = record sheet { grid = grid } in s) (unless_refused (causes sheet.grid) sheet.grid (fields sheet.grid)))) o))
-  leaves_grid_of index None e causes fields = tt
-  leaves_grid_of index (Some sheet) e causes fields = leaves_part (first_refusal (causes sheet.grid)) index sheet (fields sheet.grid) e
+  back_at : {P : Type 0} (part : Sheet → P) (put : Sheet → P → Sheet) → ((s : Sheet) → put s (part s) ≡ s) → (index : ℕ) (o : Option Sheet) → slice_get b.sheets index ≡ o → (causes : P → Causes) (fields : P → List Field)
+      → Leaves b (found_or InvalidSheet (option_map (λ (s : Sheet). put_in (with_sheet b index) (put_in (put s) (unless_refused (causes (part s)) (part s) (fields (part s))))) o))
+  back_at part put same index None e causes fields = tt
+  back_at part put same index (Some s) e causes fields = back (put s) (part s) (first_refusal (causes (part s))) index s (fields (part s)) (same s) e
 
   leaves_grid : (index : ℕ) (causes : Grid → Causes) (fields : Grid → List Field) → Leaves b (on_grid b index (λ grid. unless_refused (causes grid) grid (fields grid)))
   unfolding on_grid
-  leaves_grid index causes fields = leaves_grid_of index (slice_get b.sheets index) refl causes fields
+  leaves_grid index causes fields = back_at (λ (s : Sheet). s.grid) (λ s grid. record s { grid = grid }) (λ s. refl) index (slice_get b.sheets index) refl causes fields
 
-  leaves_tab_of : (index : ℕ) (o : Option Sheet) → slice_get b.sheets index ≡ o → (causes : Tab → Causes) (fields : Tab → List Field)
-      → Leaves b (found_or InvalidSheet (option_map (λ (sheet : Sheet). put_in (with_sheet b index) (put_in (λ (tab : Tab). let s : Sheet = record sheet { tab = tab } in s) (unless_refused (causes sheet.tab) sheet.tab (fields sheet.tab)))) o))
-  leaves_tab_of index None e causes fields = tt
-  leaves_tab_of index (Some sheet) e causes fields = leaves_tab (first_refusal (causes sheet.tab)) index sheet (fields sheet.tab) e
-
-  leaves_on_tab : (index : ℕ) (causes : Tab → Causes) (fields : Tab → List Field) → Leaves b (on_tab b index (λ tab. unless_refused (causes tab) tab (fields tab)))
+  leaves_tab : (index : ℕ) (causes : Tab → Causes) (fields : Tab → List Field) → Leaves b (on_tab b index (λ tab. unless_refused (causes tab) tab (fields tab)))
   unfolding on_tab
-  leaves_on_tab index causes fields = leaves_tab_of index (slice_get b.sheets index) refl causes fields
+  leaves_tab index causes fields = back_at (λ (s : Sheet). s.tab) (λ s tab. record s { tab = tab }) (λ s. refl) index (slice_get b.sheets index) refl causes fields
 
   -- Steps that change something. ----
 
@@ -110,21 +103,18 @@ module _ (b : Book) where
   other_sheet : (index : ℕ) (old new : Sheet) (more : List Style) → slice_get b.sheets index ≡ Some old → new.id ≡ old.id → new.name ≡ old.name → HasOtherSheet b (record (with_sheet b index new) { styles = more })
   other_sheet index old new more there id name = record { index = index; old = old; new = new; styles = more; there = there; id = id; name = name; is = refl }
 
-  put_grid : (index : ℕ) (sheet : Sheet) → slice_get b.sheets index ≡ Some sheet → (stepped : Stepped Grid) → LeavesSo HasOtherSheet b (put_in (with_sheet b index) (put_in (λ (grid : Grid). let s : Sheet = record sheet { grid = grid } in s) stepped))
-  put_grid index sheet e (Ok done) = other_sheet index sheet (record sheet { grid = done.0 }) b.styles e refl refl
-  put_grid index sheet e (Err refusal) = tt
-
-  put_tab : (index : ℕ) (sheet : Sheet) → slice_get b.sheets index ≡ Some sheet → (stepped : Stepped Tab) → LeavesSo HasOtherSheet b (put_in (with_sheet b index) (put_in (λ (tab : Tab). let s : Sheet = record sheet { tab = tab } in s) stepped))
-  put_tab index sheet e (Ok done) = other_sheet index sheet (record sheet { tab = done.0 }) b.styles e refl refl
-  put_tab index sheet e (Err refusal) = tt
+  put_so : {P : Type 0} (index : ℕ) (sheet : Sheet) (put : P → Sheet) → ((part : P) → (put part).id ≡ sheet.id) → ((part : P) → (put part).name ≡ sheet.name) → slice_get b.sheets index ≡ Some sheet
+      → (stepped : Stepped P) → LeavesSo HasOtherSheet b (put_in (with_sheet b index) (put_in put stepped))
+  put_so index sheet put id name e (Ok done) = other_sheet index sheet (put done.0) b.styles e (id done.0) (name done.0)
+  put_so index sheet put id name e (Err refusal) = tt
 
   grids : (index : ℕ) (f : Grid → Stepped Grid) → LeavesSo HasOtherSheet b (on_grid b index f)
   unfolding on_grid
-  grids index f = found_so HasOtherSheet index _ (λ sheet e. put_grid index sheet e (f sheet.grid))
+  grids index f = found_so HasOtherSheet index _ (λ s e. put_so index s (λ (grid : Grid). let new : Sheet = record s { grid = grid } in new) (λ grid. refl) (λ grid. refl) e (f s.grid))
 
   on_tabs : (index : ℕ) (f : Tab → Stepped Tab) → LeavesSo HasOtherSheet b (on_tab b index f)
   unfolding on_tab
-  on_tabs index f = found_so HasOtherSheet index _ (λ sheet e. put_tab index sheet e (f sheet.tab))
+  on_tabs index f = found_so HasOtherSheet index _ (λ s e. put_so index s (λ (tab : Tab). let new : Sheet = record s { tab = tab } in new) (λ tab. refl) (λ tab. refl) e (f s.tab))
 
   with_new : (name : List ℕ) (scope : Option ℕ) (o : Option Body) → HasOtherLists b (with_new_definition b name scope o)
   with_new name scope None = refl
@@ -237,8 +227,8 @@ module _ (b : Book) where
   unfolding get_theme_step set_theme_step frozen_rows_step frozen_columns_step
   tabs_fit (tabs.SetTheme name) = refl
   tabs_fit tabs.GetTheme = refl
-  tabs_fit (tabs.GetFrozenRowsCount sheet) = leaves_on_tab sheet (λ tab. []) _
-  tabs_fit (tabs.GetFrozenColumnsCount sheet) = leaves_on_tab sheet (λ tab. []) _
+  tabs_fit (tabs.GetFrozenRowsCount sheet) = leaves_tab sheet (λ tab. []) _
+  tabs_fit (tabs.GetFrozenColumnsCount sheet) = leaves_tab sheet (λ tab. []) _
   tabs_fit command = tt
 
   arrays_fit : (command : arrays.Arrays) → Fits (arrays_action command)

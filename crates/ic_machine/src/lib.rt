@@ -19,7 +19,7 @@ pub use law::{
     law_bad_line_stays, law_book_stays_valid, law_bound_is_named, law_cells_are_contents,
     law_cells_leave_names, law_copied_is_extended, law_core_is_stepped, law_core_lines_are_core,
     law_core_stays_valid, law_extended_is_same, law_formatted_by_rules, law_formula_is_placed,
-    law_formula_is_stepped, law_kinds_tell_changes, law_names_are_first_free, law_numbers_are_small,
-    law_readers_change_nothing, law_reference_is_written, law_refused_stays, law_retyped_stays,
-    law_runs_shared, law_translation_keeps_book,
+    law_formula_is_stepped, law_kinds_tell_changes, law_names_are_first_free,
+    law_numbers_are_small, law_readers_change_nothing, law_reference_is_written, law_refused_stays,
+    law_retyped_stays, law_runs_shared, law_translation_keeps_book,
 };
