@@ -14,31 +14,31 @@ use Rattle.ic_laws.specs.declared.scene.Scene.{Scene}
 use Rattle.ic_laws.specs.declared.tree.Formula.{Formula}
 use Rattle.ic_laws.specs.declared.tree.Formula.TheVariants as formulas
 use Rattle.ic_keep.specs.Copy.{copied_for}
-use Rattle.ic_machine.specs.Book.{Book, Grid, Sheet, Stepped, Tab, as_core, core_of, found_or, notations_in, on_grid, on_tab, put_in, scene_in, unless, with_sheet}
+use Rattle.ic_machine.specs.Action.{Action, ChangesLists, leaves_lists, perform}
+use Rattle.ic_machine.specs.Book.{Book, Sheet, Stepped, as_core, core_of, found_or, notations_in, scene_in, unless}
 use Rattle.ic_machine.specs.Changed.{changed_by, changed_with, with_kept_formulas, without_definition}
-use Rattle.ic_machine.specs.Command.{Command, OnArrays, OnDefinitions, OnExtending, OnLayout, OnNotation, OnReading, OnSheets, OnStyles, OnTabs, OnWriting, command_in, commands}
-use Rattle.ic_machine.specs.Readers.{Leaves}
+use Rattle.ic_machine.specs.Command.{Command, OnArrays, OnDefinitions, OnLayout, OnNotation, OnSheets, OnStyles, OnTabs, action, command_in, commands}
+use Rattle.ic_machine.specs.Kinds.{IsLeftBy, LeavesSo}
 use Rattle.ic_machine.specs.Refusal.{InvalidSheet, Refusal}
 use Rattle.ic_machine.specs.Reply.{Field}
 use Rattle.ic_machine.specs.Step.{command_step, english_errors, outcome_of, step}
 use Rattle.ic_machine.specs.Translation.{left_after}
 use Rattle.ic_machine.specs.subjects.Arrays as arrays
-use Rattle.ic_machine.specs.subjects.Arrays.{array_step}
+use Rattle.ic_machine.specs.subjects.Arrays.{arrays_action}
 use Rattle.ic_machine.specs.subjects.Definitions as definitions
-use Rattle.ic_machine.specs.subjects.Definitions.{Update, delete_definition_step, keys_of_update, new_definition_step, update_body, update_name_step, updated_index, with_body, with_new_definition, with_update}
+use Rattle.ic_machine.specs.subjects.Definitions.{Update, definition_action, delete_definition_step, keys_of_update, new_definition_step, update_body, update_name_step, updated_index, with_body, with_new_definition, with_update}
 use Rattle.ic_machine.specs.subjects.Layout as layout
+use Rattle.ic_machine.specs.subjects.Layout.{layout_action}
 use Rattle.ic_machine.specs.subjects.Notation as notation
-use Rattle.ic_machine.specs.subjects.Notation.{get_language_step, get_locale_step, get_timezone_step, set_language_step, set_locale_step, set_timezone_step, settings_step}
+use Rattle.ic_machine.specs.subjects.Notation.{notation_action}
 use Rattle.ic_machine.specs.subjects.Sheets as sheets
-use Rattle.ic_machine.specs.subjects.Sheets.{add_sheet_step, copied_of, copies_of_definitions, copy_id, delete_by_id_step, delete_by_name_step, delete_sheet_step, duplicate_sheet_step, formula_copied, insert_sheet_step, local_in, local_to, move_sheet_step, new_sheet_step, rename_by_index_step, rename_sheet_step, shared_about, with_formula}
+use Rattle.ic_machine.specs.subjects.Sheets.{add_sheet_step, copied_of, copies_of_definitions, copy_id, delete_by_id_step, delete_by_name_step, delete_sheet_step, duplicate_sheet_step, formula_copied, insert_sheet_step, local_in, local_to, move_sheet_step, new_sheet_step, rename_by_index_step, rename_sheet_step, shared_about, sheet_action, with_formula}
 use Rattle.ic_machine.specs.subjects.Styles as styles
-use Rattle.ic_machine.specs.subjects.Styles.{set_column_step, set_row_step}
+use Rattle.ic_machine.specs.subjects.Styles.{style_action}
 use Rattle.ic_machine.specs.subjects.Tabs as tabs
-use Rattle.ic_machine.specs.subjects.Tabs.{get_theme_step, set_theme_step}
-use Rattle.ic_machine.specs.subjects.Writing as writing
-use Rattle.ic_machine.specs.subjects.Writing.{bool_step, formula_step, input_step, number_step, text_step}
+use Rattle.ic_machine.specs.subjects.Tabs.{tab_action}
 use Rattle.ic_machine.proofs.CopyKeys.{all_appended, all_in_map}
-use Rattle.ic_machine.proofs.ReaderLemmas.{readers_leave}
+use Rattle.ic_machine.proofs.KindLemmas.{definitions_left, left_by_kind}
 use Rattle.ic_machine.proofs.ValidLemmas.{all_of, all_put}
 use Rattle.ic_dump.specs.Refused.{is_raw, raw_body}
 use Rattle.ic_dump.proofs.ListLemmas.{filtered_holds}
@@ -84,91 +84,14 @@ module _ (b : Book) (trees : AreTrees b.definitions) where
   kept_core (Ok done) left h = h
   kept_core (Err refusal) left h = tt
 
-  by_leaving : (stepped : Stepped Book) → Leaves b stepped → LeavesTrees stepped
-  by_leaving (Ok done) h = subst (λ (x : Book). AreTrees x.definitions) (sym h) trees
-  by_leaving (Err refusal) h = tt
-
   at_found : (o : Option Sheet) (f : Sheet → Stepped Book) → ((sheet : Sheet) → LeavesTrees (f sheet)) → LeavesTrees (found_or InvalidSheet (option_map f o))
   at_found None f h = tt
   at_found (Some sheet) f h = h sheet
 
-  put_grid : (index : ℕ) (sheet : Sheet) (stepped : Stepped Grid) → LeavesTrees (put_in (with_sheet b index) (put_in (λ (grid : Grid). let s : Sheet = record sheet { grid = grid } in s) stepped))
-  put_grid index sheet (Ok done) = trees
-  put_grid index sheet (Err refusal) = tt
-
-  put_tab : (index : ℕ) (sheet : Sheet) (stepped : Stepped Tab) → LeavesTrees (put_in (with_sheet b index) (put_in (λ (tab : Tab). let s : Sheet = record sheet { tab = tab } in s) stepped))
-  put_tab index sheet (Ok done) = trees
-  put_tab index sheet (Err refusal) = tt
-
-  grids : (index : ℕ) (f : Grid → Stepped Grid) → LeavesTrees (on_grid b index f)
-  unfolding on_grid
-  grids index f = at_found (slice_get b.sheets index) _ (λ sheet. put_grid index sheet (f sheet.grid))
-
-  on_tabs : (index : ℕ) (f : Tab → Stepped Tab) → LeavesTrees (on_tab b index f)
-  unfolding on_tab
-  on_tabs index f = at_found (slice_get b.sheets index) _ (λ sheet. put_tab index sheet (f sheet.tab))
-
-  -- Subjects that leave all bodies. ----
-
-  notation_trees : (command : notation.Notation) → LeavesTrees (step b (OnNotation command))
-  unfolding get_locale_step get_language_step get_timezone_step settings_step set_locale_step set_language_step set_timezone_step
-  notation_trees notation.GetLocale = trees
-  notation_trees notation.GetLanguage = trees
-  notation_trees notation.GetTimezone = trees
-  notation_trees notation.GetFmtSettings = trees
-  notation_trees (notation.SetLocale id) = kept_core _ _ trees
-  notation_trees (notation.SetLanguage id) = kept_core _ _ trees
-  notation_trees (notation.SetTimezone id) = kept _ _ _ trees
-
-  writing_trees : (command : writing.Writing) → LeavesTrees (step b (OnWriting command))
-  unfolding input_step text_step formula_step bool_step number_step
-  writing_trees (writing.SetUserInput sheet row column text) = at_found (slice_get b.sheets sheet) _ (λ s. kept _ _ _ trees)
-  writing_trees (writing.UpdateCellWithText sheet row column text) = at_found (slice_get b.sheets sheet) _ (λ s. kept _ _ _ trees)
-  writing_trees (writing.UpdateCellWithFormula sheet row column text) = at_found (slice_get b.sheets sheet) _ (λ s. kept _ _ _ trees)
-  writing_trees (writing.UpdateCellWithBool sheet row column truth) = at_found (slice_get b.sheets sheet) _ (λ s. kept _ _ _ trees)
-  writing_trees (writing.UpdateCellWithNumber sheet row column amount) = at_found (slice_get b.sheets sheet) _ (λ s. kept _ _ _ trees)
-
-  style_trees : (command : styles.Styles) → LeavesTrees (step b (OnStyles command))
-  unfolding set_column_step set_row_step
-  style_trees (styles.GetCellStyleIndex sheet row column) = by_leaving _ (readers_leave b (OnStyles (styles.GetCellStyleIndex sheet row column)))
-  style_trees (styles.GetStyleForCell sheet row column) = by_leaving _ (readers_leave b (OnStyles (styles.GetStyleForCell sheet row column)))
-  style_trees (styles.GetCellStyleOrNone sheet row column) = by_leaving _ (readers_leave b (OnStyles (styles.GetCellStyleOrNone sheet row column)))
-  style_trees (styles.GetColumnStyle sheet column) = by_leaving _ (readers_leave b (OnStyles (styles.GetColumnStyle sheet column)))
-  style_trees (styles.GetRowStyle sheet row) = by_leaving _ (readers_leave b (OnStyles (styles.GetRowStyle sheet row)))
-  style_trees (styles.SetColumnStyle sheet column style) = at_found (slice_get b.sheets sheet) _ (λ s. kept _ _ _ trees)
-  style_trees (styles.SetRowStyle sheet row style) = at_found (slice_get b.sheets sheet) _ (λ s. kept _ _ _ trees)
-  style_trees (styles.DeleteColumnStyle sheet column) = grids sheet _
-  style_trees (styles.DeleteRowStyle sheet row) = grids sheet _
-
-  layout_trees : (command : layout.Layout) → LeavesTrees (step b (OnLayout command))
-  layout_trees (layout.SetColumnWidth sheet column width) = grids sheet _
-  layout_trees (layout.SetRowHeight sheet row height) = grids sheet _
-  layout_trees (layout.GetColumnWidth sheet column) = grids sheet _
-  layout_trees (layout.GetRowHeight sheet row) = grids sheet _
-  layout_trees (layout.SetColumnHidden sheet column hidden) = grids sheet _
-  layout_trees (layout.SetRowHidden sheet row hidden) = grids sheet _
-  layout_trees (layout.IsColumnHidden sheet column) = grids sheet _
-  layout_trees (layout.IsRowHidden sheet row) = grids sheet _
-
-  tab_trees : (command : tabs.Tabs) → LeavesTrees (step b (OnTabs command))
-  unfolding set_theme_step get_theme_step
-  tab_trees (tabs.SetTheme name) = trees
-  tab_trees tabs.GetTheme = trees
-  tab_trees (tabs.SetFrozenRows sheet count) = on_tabs sheet _
-  tab_trees (tabs.SetFrozenColumns sheet count) = on_tabs sheet _
-  tab_trees (tabs.GetFrozenRowsCount sheet) = on_tabs sheet _
-  tab_trees (tabs.GetFrozenColumnsCount sheet) = on_tabs sheet _
-  tab_trees (tabs.SetSheetColor sheet color) = on_tabs sheet _
-  tab_trees (tabs.SetSheetState sheet state) = on_tabs sheet _
-  tab_trees (tabs.SetShowGridLines sheet shows) = on_tabs sheet _
-
-  array_trees : (command : arrays.Arrays) → LeavesTrees (step b (OnArrays command))
-  unfolding array_step
-  array_trees (arrays.SetUserArrayFormula sheet block text) = at_found (slice_get b.sheets sheet) _ (λ s. kept _ _ _ trees)
-  array_trees (arrays.RangeClearContents sheet block) = grids sheet _
-  array_trees (arrays.RangeClearAll sheet block) = grids sheet _
-  array_trees (arrays.PutFormulaValue sheet place value) = grids sheet _
-  array_trees (arrays.PutSpill sheet block values) = grids sheet _
+  -- what is to be shown of a step: it is one on the lists of sheets and definitions, or leaves all definitions
+  abbrev Fits : Action → Type 0
+  Fits (ChangesLists f) = LeavesTrees (f b)
+  Fits a = Unit {0}
 
   -- Sheets: all bodies are kept, and those of a copied sheet are copied. ----
 
@@ -183,7 +106,7 @@ module _ (b : Book) (trees : AreTrees b.definitions) where
       (all_in_map (local_in scope) (λ (d : Definition). IsTree (with_formula (formula_copied b index source) d)) (copied_of source.id b.definitions)
       (all_of IsTree (λ (d : Definition). IsTree (with_formula (formula_copied b index source) (local_in scope d))) (λ d e. copied_raw _ _ _ _ _ d.body ∙ e) (copied_of source.id b.definitions) all))
 
-  sheet_trees : (command : sheets.Sheets) → LeavesTrees (step b (OnSheets command))
+  sheet_trees : (command : sheets.Sheets) → Fits (sheet_action command)
   unfolding add_sheet_step insert_sheet_step new_sheet_step duplicate_sheet_step rename_sheet_step rename_by_index_step move_sheet_step delete_sheet_step delete_by_name_step delete_by_id_step
   sheet_trees (sheets.AddSheet name) = kept_core _ _ (all_kept _ _)
   sheet_trees (sheets.InsertSheet name index id) = kept _ _ _ (all_kept _ _)
@@ -196,8 +119,7 @@ module _ (b : Book) (trees : AreTrees b.definitions) where
   sheet_trees (sheets.DeleteSheet sheet) = kept_core _ _ (all_kept _ _)
   sheet_trees (sheets.DeleteSheetByName name) = kept_core _ _ (all_kept _ _)
   sheet_trees (sheets.DeleteSheetBySheetId id) = kept_core _ _ (all_kept _ _)
-  sheet_trees sheets.GetNewSheetId = by_leaving _ (readers_leave b (OnSheets sheets.GetNewSheetId))
-  sheet_trees sheets.GetWorksheetsProperties = by_leaving _ (readers_leave b (OnSheets sheets.GetWorksheetsProperties))
+  sheet_trees command = tt
 
   -- Definitions: a new body is a tree. ----
 
@@ -217,26 +139,55 @@ module _ (b : Book) (trees : AreTrees b.definitions) where
   updated u None = trees
   updated u (Some body) = put u body.has_equals _ refl (updated_index b u)
 
-  definition_trees : (command : definitions.Definitions) → LeavesTrees (step b (OnDefinitions command))
+  definition_trees : (command : definitions.Definitions) → Fits (definition_action command)
   unfolding new_definition_step delete_definition_step update_name_step
   definition_trees (definitions.NewDefinedName name scope body) = kept_core _ _ (made name _ (body_of (notations_in b) (core_of b) body))
   definition_trees (definitions.DeleteDefinedName name scope) = kept_core _ _ (gone _)
   definition_trees (definitions.UpdateDefinedName update) = kept _ _ _ (updated update (update_body (notations_in b) (core_of b) update.body))
-  definition_trees (definitions.WouldCaptureName update) = by_leaving _ (readers_leave b (OnDefinitions (definitions.WouldCaptureName update)))
-  definition_trees (definitions.IsValidDefinedName name scope body) = by_leaving _ (readers_leave b (OnDefinitions (definitions.IsValidDefinedName name scope body)))
-  definition_trees definitions.GetDefinedNameList = by_leaving _ (readers_leave b (OnDefinitions definitions.GetDefinedNameList))
+  definition_trees command = tt
+
+  -- No other command is one on the lists. ----
+
+  notation_trees : (command : notation.Notation) → Fits (notation_action command)
+  notation_trees notation.GetLocale = tt
+  notation_trees command = tt
+
+  style_trees : (command : styles.Styles) → Fits (style_action command)
+  style_trees (styles.GetRowStyle sheet row) = tt
+  style_trees command = tt
+
+  layout_trees : (command : layout.Layout) → Fits (layout_action command)
+  layout_trees (layout.GetRowHeight sheet row) = tt
+  layout_trees command = tt
+
+  tab_trees : (command : tabs.Tabs) → Fits (tab_action command)
+  tab_trees tabs.GetTheme = tt
+  tab_trees command = tt
+
+  array_trees : (command : arrays.Arrays) → Fits (arrays_action command)
+  array_trees (arrays.PutSpill sheet block values) = tt
+  array_trees command = tt
+
+  fits : (command : Command) → Fits (action command)
+  fits (OnSheets command) = sheet_trees command
+  fits (OnDefinitions command) = definition_trees command
+  fits (OnNotation command) = notation_trees command
+  fits (OnStyles command) = style_trees command
+  fits (OnLayout command) = layout_trees command
+  fits (OnTabs command) = tab_trees command
+  fits (OnArrays command) = array_trees command
+  fits command = tt
+
+  other_trees : (a : Action) → leaves_lists a ≡ true → (stepped : Stepped Book) → LeavesSo (IsLeftBy a) b stepped → LeavesTrees stepped
+  other_trees a e (Ok done) h = subst AreTrees (sym (definitions_left b a done.0 e h)) trees
+  other_trees a e (Err refusal) h = tt
+
+  by_kind : (a : Action) → Fits a → LeavesSo (IsLeftBy a) b (perform b a) → LeavesTrees (perform b a)
+  by_kind (ChangesLists f) fit h = fit
+  by_kind a fit h = other_trees a refl (perform b a) h
 
   step_trees : (command : Command) → LeavesTrees (step b command)
-  step_trees (OnSheets command) = sheet_trees command
-  step_trees (OnDefinitions command) = definition_trees command
-  step_trees (OnNotation command) = notation_trees command
-  step_trees (OnWriting command) = writing_trees command
-  step_trees (OnReading command) = by_leaving _ (readers_leave b (OnReading command))
-  step_trees (OnExtending command) = by_leaving _ (readers_leave b (OnExtending command))
-  step_trees (OnStyles command) = style_trees command
-  step_trees (OnLayout command) = layout_trees command
-  step_trees (OnTabs command) = tab_trees command
-  step_trees (OnArrays command) = array_trees command
+  step_trees command = by_kind (action command) (fits command) (left_by_kind b command)
 
   -- so does a line
   line_trees : (line : List ℕ) → AreTrees (left_after b line).definitions

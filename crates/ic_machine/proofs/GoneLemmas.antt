@@ -1,17 +1,16 @@
 -- A line that isn't translated leaves a book that is the same: it is no command, is refused, reads, or chooses the notation.
 use Rattle.std.proofs.Common.{◌≡◌, true, ◌||◌, cond, Option, Some, None, Ok, Err, inl, inr, option_and_then, option_map, sym, ap, subst, ◌∙◌}
 use Rattle.std.proofs.lemmas.Bool.{cases_Bool, true≢false}
-use Rattle.ic_laws.specs.Command as core
-use Rattle.ic_laws.specs.CoreStep.{Outcome, core_step}
-use Rattle.ic_machine.specs.Book.{Book, Stepped, as_core, core_of, notations_in}
-use Rattle.ic_machine.specs.Command.{Command, OnNotation, command_in, commands}
+use Rattle.ic_machine.specs.Action.{Action, ChangesNotation, chooses_notation}
+use Rattle.ic_machine.specs.Book.{Book, Stepped}
+use Rattle.ic_machine.specs.Command.{Command, action, command_in, commands}
+use Rattle.ic_machine.specs.Kinds.{IsLeftBy, LeavesSo}
 use Rattle.ic_machine.specs.Readers.{Leaves, LeavesIf, is_reader}
 use Rattle.ic_machine.specs.Same.{IsSameBook}
 use Rattle.ic_machine.specs.Step.{command_step, english_errors, outcome_of, step}
 use Rattle.ic_machine.specs.Translation.{is_dropped, is_switch, kept_command, left_by}
 use Rattle.ic_machine.specs.TranslationLaws.{GoneIsSame}
-use Rattle.ic_machine.specs.subjects.Notation as notation
-use Rattle.ic_machine.specs.subjects.Notation.{set_language_step, set_locale_step}
+use Rattle.ic_machine.proofs.KindLemmas.{left_by_kind}
 use Rattle.ic_machine.proofs.ReaderLemmas.{readers_leave}
 use Rattle.ic_machine.proofs.SameLemmas.{switched_same}
 
@@ -26,20 +25,15 @@ reader_same : (b : Book) (stepped : Stepped Book) → Leaves b stepped → Stays
 reader_same b (Ok done) h = subst (λ left. IsSameBook left b) (sym h) (itself b)
 reader_same b (Err refusal) h = itself b
 
-core_step_same : (b left : Book) (outcome : Outcome) → IsSameBook left b → StaysSame b (as_core outcome left)
-core_step_same b left (Ok done) h = h
-core_step_same b left (Err refusal) h = itself b
-
-switch_same : (b : Book) (command : Command) → is_switch command ≡ true → StaysSame b (step b command)
-unfolding set_locale_step set_language_step
-switch_same b (OnNotation (notation.SetLocale id)) h = core_step_same b (record b { locale = id }) (core_step (notations_in b) (core_of b) (core.SetLocale id)) (switched_same id b.language b)
-switch_same b (OnNotation (notation.SetLanguage id)) h = core_step_same b (record b { language = id }) (core_step (notations_in b) (core_of b) (core.SetLanguage id)) (switched_same b.locale id b)
-switch_same b command h = absurd (true≢false (sym h))
+switch_same : (b : Book) (a : Action) (stepped : Stepped Book) → LeavesSo (IsLeftBy a) b stepped → chooses_notation a ≡ true → StaysSame b stepped
+switch_same b (ChangesNotation f) (Ok done) h e = subst (λ left. IsSameBook left b) (sym h) (switched_same done.0.locale done.0.language b)
+switch_same b (ChangesNotation f) (Err refusal) h e = itself b
+switch_same b a stepped h e = absurd (true≢false (sym e))
 
 dropped_same : (b : Book) (command : Command) → is_dropped command ≡ true → StaysSame b (step b command)
 dropped_same b command h = elim (cases_Bool (is_reader command)) [
   | inl e ↦ reader_same b (step b command) (subst (λ reads. LeavesIf reads b (step b command)) e (readers_leave b command))
-  | inr e ↦ switch_same b command (ap (λ reads. reads || is_switch command) (sym e) ∙ h)
+  | inr e ↦ switch_same b (action command) (step b command) (left_by_kind b command) (ap (λ reads. reads || is_switch command) (sym e) ∙ h)
 ]
 
 refused_same : (b : Book) (command : Command) (stepped : Stepped Book) → option_map (λ left. let kept : Command × Book = (command, left) in kept) (left_by stepped) ≡ None → StaysSame b stepped

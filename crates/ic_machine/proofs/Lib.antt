@@ -31,6 +31,7 @@ pub mod HaveLemmas
 mod InputSame
 pub mod InsertedBinds
 pub mod InsertedStays
+pub mod KindLemmas
 pub mod LineRead
 mod LineSame
 mod LineStays

@@ -13,10 +13,11 @@ use Rattle.ic_laws.specs.declared.tree.Formula.TheVariants as formulas
 use Rattle.ic_cells.specs.declared.workbook.Metadata.{Metadata}
 use Rattle.ic_input.specs.declared.input.Typed.{Typed}
 use Rattle.ic_input.specs.declared.input.Typed.TheVariants as kinds
+use Rattle.ic_machine.specs.Action.{Action, Asks, ChangesCells, ChangesGrid, ChangesLists, ChangesNotation, ChangesSettings, ChangesTab, only_asks, perform}
 use Rattle.ic_machine.specs.Book.{Book, Grid, Sheet, Stepped, Tab, as_core, core_of, found_or, notations_in, on_grid, on_tab, put_in, scene_in, unless, with_sheet}
 use Rattle.ic_machine.specs.Capture.{captured_sites, has_sites}
 use Rattle.ic_machine.specs.Changed.{changed_by, changed_with, without_definition}
-use Rattle.ic_machine.specs.Command.{Command, OnArrays, OnDefinitions, OnExtending, OnLayout, OnNotation, OnReading, OnSheets, OnStyles, OnTabs, OnWriting, command_in, commands}
+use Rattle.ic_machine.specs.Command.{Command, OnArrays, OnDefinitions, OnExtending, OnLayout, OnNotation, OnReading, OnSheets, OnStyles, OnTabs, OnWriting, action, command_in, commands}
 use Rattle.ic_machine.specs.InForce.{typed_in}
 use Rattle.ic_machine.specs.Readers.{Leaves, LeavesIf, is_reader}
 use Rattle.ic_machine.specs.Refusal.{InvalidSheet, Refusal, WouldCapture, first_refusal}
@@ -24,20 +25,21 @@ use Rattle.ic_machine.specs.Reply.{Field}
 use Rattle.ic_machine.specs.Step.{command_step, english_errors, outcome_of, step}
 use Rattle.ic_machine.specs.Translation.{Why, first_hindered, first_of, in_notation, is_switch, kept_command, left_after, left_by, own_formula, updated_definition, why_line_not, why_not}
 use Rattle.ic_machine.specs.subjects.Arrays as arrays
-use Rattle.ic_machine.specs.subjects.Arrays.{array_step}
+use Rattle.ic_machine.specs.subjects.Arrays.{array_step, arrays_action}
 use Rattle.ic_machine.specs.subjects.Definitions as definitions
-use Rattle.ic_machine.specs.subjects.Definitions.{Update, delete_definition_step, keys_of_update, new_definition_step, new_scope_id, old_key, question_causes, scene_updated, update_body, update_name_step, updated_book, updated_index, with_body, with_new_definition, with_update}
+use Rattle.ic_machine.specs.subjects.Definitions.{Update, definition_action, delete_definition_step, keys_of_update, new_definition_step, new_scope_id, old_key, question_causes, scene_updated, update_body, update_name_step, updated_book, updated_index, with_body, with_new_definition, with_update}
 use Rattle.ic_machine.specs.subjects.Layout as layout
+use Rattle.ic_machine.specs.subjects.Layout.{layout_action}
 use Rattle.ic_machine.specs.subjects.Notation as notation
-use Rattle.ic_machine.specs.subjects.Notation.{set_language_step, set_locale_step, set_timezone_step}
+use Rattle.ic_machine.specs.subjects.Notation.{notation_action, set_language_step, set_locale_step, set_timezone_step}
 use Rattle.ic_machine.specs.subjects.Sheets as sheets
-use Rattle.ic_machine.specs.subjects.Sheets.{add_sheet_step, delete_by_id_step, delete_by_name_step, delete_sheet_step, duplicate_sheet_step, insert_sheet_step, move_sheet_step, new_sheet_step, rename_by_index_step, rename_sheet_step}
+use Rattle.ic_machine.specs.subjects.Sheets.{add_sheet_step, delete_by_id_step, delete_by_name_step, delete_sheet_step, duplicate_sheet_step, insert_sheet_step, move_sheet_step, new_sheet_step, rename_by_index_step, rename_sheet_step, sheet_action}
 use Rattle.ic_machine.specs.subjects.Styles as styles
-use Rattle.ic_machine.specs.subjects.Styles.{set_column_step, set_row_step}
+use Rattle.ic_machine.specs.subjects.Styles.{set_column_step, set_row_step, style_action}
 use Rattle.ic_machine.specs.subjects.Tabs as tabs
-use Rattle.ic_machine.specs.subjects.Tabs.{set_theme_step}
+use Rattle.ic_machine.specs.subjects.Tabs.{set_theme_step, tab_action}
 use Rattle.ic_machine.specs.subjects.Writing as writing
-use Rattle.ic_machine.specs.subjects.Writing.{Written, bool_step, formula_step, input_step, number_step, text_step, typed_written, with_written}
+use Rattle.ic_machine.specs.subjects.Writing.{Written, bool_step, formula_step, input_step, number_step, text_step, typed_written, with_written, writing_step}
 use Rattle.ic_machine.proofs.ReaderLemmas.{readers_leave}
 
 -- a book with other metadata
@@ -48,10 +50,20 @@ module _ (m : Metadata) (b : Book) where
   abbrev M : Book → Book
   M = with_metadata m
 
-  -- what a step does, done to the book with other metadata; nothing is said of a command that only reads
-  abbrev Follows : Bool → Command → Type 0
-  Follows true command = Unit {0}
-  Follows false command = put_in M (step b command) ≡ step (M b) command
+  -- what an action does, done to the book with other metadata; nothing is said of one that only asks
+  abbrev Follows : Bool → Action → Type 0
+  Follows true a = Unit {0}
+  Follows false a = put_in M (perform b a) ≡ perform (M b) a
+
+  -- what is to be shown of it; nothing, where it is a step on a tab or a grid
+  abbrev Fits : Action → Type 0
+  Fits (Asks f) = Unit {0}
+  Fits (ChangesTab index f) = Unit {0}
+  Fits (ChangesGrid index f) = Unit {0}
+  Fits (ChangesCells f) = put_in M (f b) ≡ f (M b)
+  Fits (ChangesSettings f) = put_in M (f b) ≡ f (M b)
+  Fits (ChangesNotation f) = put_in M (f b) ≡ f (M b)
+  Fits (ChangesLists f) = put_in M (f b) ≡ f (M b)
 
   -- Forms of steps. ----
 
@@ -87,7 +99,7 @@ module _ (m : Metadata) (b : Book) where
 
   -- The commands, by subjects. ----
 
-  sheets_follow : (command : sheets.Sheets) → Follows (is_reader (OnSheets command)) (OnSheets command)
+  sheets_follow : (command : sheets.Sheets) → Fits (sheet_action command)
   unfolding add_sheet_step delete_by_id_step delete_by_name_step delete_sheet_step duplicate_sheet_step insert_sheet_step move_sheet_step new_sheet_step rename_by_index_step rename_sheet_step
   sheets_follow (sheets.AddSheet name) = by_core _ _
   sheets_follow (sheets.InsertSheet name index id) = by_causes _ _ _
@@ -99,8 +111,7 @@ module _ (m : Metadata) (b : Book) where
   sheets_follow (sheets.DeleteSheet sheet) = by_core _ _
   sheets_follow (sheets.DeleteSheetByName name) = by_core _ _
   sheets_follow (sheets.DeleteSheetBySheetId id) = by_core _ _
-  sheets_follow sheets.GetNewSheetId = tt
-  sheets_follow sheets.GetWorksheetsProperties = tt
+  sheets_follow command = tt
 
   with_new : (name : List ℕ) (scope : Option ℕ) (o : Option Body) → M (with_new_definition b name scope o) ≡ with_new_definition (M b) name scope o
   with_new name scope None = refl
@@ -150,25 +161,20 @@ module _ (m : Metadata) (b : Book) where
     defined_same None = refl
     defined_same (Some body) = ap (λ (d : Definition). let o : Option Definition = Some d in o) (definition_same body)
 
-  definitions_follow : (command : definitions.Definitions) → Follows (is_reader (OnDefinitions command)) (OnDefinitions command)
+  definitions_follow : (command : definitions.Definitions) → Fits (definition_action command)
   unfolding new_definition_step delete_definition_step
   definitions_follow (definitions.NewDefinedName name scope body) =
       by_core _ _ ∙ ap (as_core _) (with_new name (scope_or_none (core_of b) scope) (body_of (notations_in b) (core_of b) body))
   definitions_follow (definitions.DeleteDefinedName name scope) = by_core _ _ ∙ ap (as_core _) (without _)
   definitions_follow (definitions.UpdateDefinedName update) = update_follows update
-  definitions_follow (definitions.WouldCaptureName update) = tt
-  definitions_follow (definitions.IsValidDefinedName name scope body) = tt
-  definitions_follow definitions.GetDefinedNameList = tt
+  definitions_follow command = tt
 
-  notation_follows : (command : notation.Notation) → Follows (is_reader (OnNotation command)) (OnNotation command)
+  notation_follows : (command : notation.Notation) → Fits (notation_action command)
   unfolding set_language_step set_locale_step set_timezone_step
-  notation_follows notation.GetLocale = tt
-  notation_follows notation.GetLanguage = tt
-  notation_follows notation.GetTimezone = tt
-  notation_follows notation.GetFmtSettings = tt
   notation_follows (notation.SetLocale id) = by_core _ _
   notation_follows (notation.SetLanguage id) = by_core _ _
   notation_follows (notation.SetTimezone id) = by_causes _ _ _
+  notation_follows command = tt
 
   typed_same : (sheet : Sheet) (place : CellPlace) (t : Typed) → typed_written b sheet place t ≡ typed_written (M b) sheet place t
   typed_same sheet place kinds.Empty = refl
@@ -179,7 +185,7 @@ module _ (m : Metadata) (b : Book) where
   typed_same sheet place (kinds.Error e) = refl
   typed_same sheet place (kinds.Text text) = refl
 
-  writing_follows : (command : writing.Writing) → Follows false (OnWriting command)
+  writing_follows : (command : writing.Writing) → put_in M (writing_step b command) ≡ writing_step (M b) command
   unfolding input_step text_step formula_step bool_step number_step
   writing_follows (writing.SetUserInput sheet row column text) =
       at_found (slice_get b.sheets sheet) _ _ (λ s. by_causes _ _ _ ∙ ap (λ (w : Written). unless (first_refusal (writing.place_causes (row, column) ++ (writing.write_causes s (row, column) ++ []))) (with_written (M b) sheet s (row, column) w) []) (typed_same s (row, column) (typed_in b text)))
@@ -188,86 +194,57 @@ module _ (m : Metadata) (b : Book) where
   writing_follows (writing.UpdateCellWithBool sheet row column truth) = at_found (slice_get b.sheets sheet) _ _ (λ s. by_causes _ _ _)
   writing_follows (writing.UpdateCellWithNumber sheet row column amount) = at_found (slice_get b.sheets sheet) _ _ (λ s. by_causes _ _ _)
 
-  styles_follow : (command : styles.Styles) → Follows (is_reader (OnStyles command)) (OnStyles command)
+  styles_follow : (command : styles.Styles) → Fits (style_action command)
   unfolding set_column_step set_row_step
-  styles_follow (styles.GetCellStyleIndex sheet row column) = tt
-  styles_follow (styles.GetStyleForCell sheet row column) = tt
-  styles_follow (styles.GetCellStyleOrNone sheet row column) = tt
-  styles_follow (styles.GetColumnStyle sheet column) = tt
-  styles_follow (styles.GetRowStyle sheet row) = tt
   styles_follow (styles.SetColumnStyle sheet column style) = at_found (slice_get b.sheets sheet) _ _ (λ s. by_causes _ _ _)
   styles_follow (styles.SetRowStyle sheet row style) = at_found (slice_get b.sheets sheet) _ _ (λ s. by_causes _ _ _)
-  styles_follow (styles.DeleteColumnStyle sheet column) = grids sheet _
-  styles_follow (styles.DeleteRowStyle sheet row) = grids sheet _
+  styles_follow command = tt
 
-  layout_follows : (command : layout.Layout) → Follows (is_reader (OnLayout command)) (OnLayout command)
-  layout_follows (layout.SetColumnWidth sheet column width) = grids sheet _
-  layout_follows (layout.SetRowHeight sheet row height) = grids sheet _
-  layout_follows (layout.SetColumnHidden sheet column hidden) = grids sheet _
-  layout_follows (layout.SetRowHidden sheet row hidden) = grids sheet _
-  layout_follows (layout.GetColumnWidth sheet column) = tt
-  layout_follows (layout.GetRowHeight sheet row) = tt
-  layout_follows (layout.IsColumnHidden sheet column) = tt
-  layout_follows (layout.IsRowHidden sheet row) = tt
+  layout_follows : (command : layout.Layout) → Fits (layout_action command)
+  layout_follows (layout.SetColumnWidth sheet column width) = tt
+  layout_follows command = tt
 
-  tabs_follow : (command : tabs.Tabs) → Follows (is_reader (OnTabs command)) (OnTabs command)
+  tabs_follow : (command : tabs.Tabs) → Fits (tab_action command)
   unfolding set_theme_step
   tabs_follow (tabs.SetTheme name) = refl
-  tabs_follow tabs.GetTheme = tt
-  tabs_follow (tabs.SetFrozenRows sheet count) = on_tabs sheet _
-  tabs_follow (tabs.SetFrozenColumns sheet count) = on_tabs sheet _
-  tabs_follow (tabs.GetFrozenRowsCount sheet) = tt
-  tabs_follow (tabs.GetFrozenColumnsCount sheet) = tt
-  tabs_follow (tabs.SetSheetColor sheet color) = on_tabs sheet _
-  tabs_follow (tabs.SetSheetState sheet state) = on_tabs sheet _
-  tabs_follow (tabs.SetShowGridLines sheet shows) = on_tabs sheet _
+  tabs_follow command = tt
 
-  arrays_follow : (command : arrays.Arrays) → Follows false (OnArrays command)
+  arrays_follow : (command : arrays.Arrays) → Fits (arrays_action command)
   unfolding array_step
   arrays_follow (arrays.SetUserArrayFormula sheet block text) = at_found (slice_get b.sheets sheet) _ _ (λ s. by_causes _ _ _)
-  arrays_follow (arrays.RangeClearContents sheet block) = grids sheet _
-  arrays_follow (arrays.RangeClearAll sheet block) = grids sheet _
-  arrays_follow (arrays.PutFormulaValue sheet place value) = grids sheet _
-  arrays_follow (arrays.PutSpill sheet block values) = grids sheet _
+  arrays_follow command = tt
 
-  follows : (command : Command) → Follows (is_reader command) command
-  follows (OnSheets command) = sheets_follow command
-  follows (OnDefinitions command) = definitions_follow command
-  follows (OnNotation command) = notation_follows command
-  follows (OnWriting command) = writing_follows command
-  follows (OnReading command) = tt
-  follows (OnExtending command) = tt
-  follows (OnStyles command) = styles_follow command
-  follows (OnLayout command) = layout_follows command
-  follows (OnTabs command) = tabs_follow command
-  follows (OnArrays command) = arrays_follow command
+  fits : (command : Command) → Fits (action command)
+  fits (OnSheets command) = sheets_follow command
+  fits (OnDefinitions command) = definitions_follow command
+  fits (OnNotation command) = notation_follows command
+  fits (OnWriting command) = writing_follows command
+  fits (OnReading command) = tt
+  fits (OnExtending command) = tt
+  fits (OnStyles command) = styles_follow command
+  fits (OnLayout command) = layout_follows command
+  fits (OnTabs command) = tabs_follow command
+  fits (OnArrays command) = arrays_follow command
+
+  by_kind : (a : Action) → Fits a → Follows (only_asks a) a
+  by_kind (Asks f) h = tt
+  by_kind (ChangesTab index f) h = on_tabs index f
+  by_kind (ChangesGrid index f) h = grids index f
+  by_kind (ChangesCells f) h = h
+  by_kind (ChangesSettings f) h = h
+  by_kind (ChangesNotation f) h = h
+  by_kind (ChangesLists f) h = h
+
+  follows : (command : Command) → Follows (is_reader command) (action command)
+  follows command = by_kind (action command) (fits command)
 
   -- A line's own formula, and what it leaves. ----
 
   own_same : (command : Command) → own_formula b command ≡ own_formula (M b) command
   own_same (OnWriting (writing.SetUserInput sheet row column text)) = refl
-  own_same (OnWriting (writing.UpdateCellWithText sheet row column text)) = refl
-  own_same (OnWriting (writing.UpdateCellWithFormula sheet row column text)) = refl
-  own_same (OnWriting (writing.UpdateCellWithBool sheet row column truth)) = refl
-  own_same (OnWriting (writing.UpdateCellWithNumber sheet row column amount)) = refl
   own_same (OnArrays (arrays.SetUserArrayFormula sheet block text)) = refl
-  own_same (OnArrays (arrays.RangeClearContents sheet block)) = refl
-  own_same (OnArrays (arrays.RangeClearAll sheet block)) = refl
-  own_same (OnArrays (arrays.PutFormulaValue sheet place value)) = refl
-  own_same (OnArrays (arrays.PutSpill sheet block values)) = refl
-  own_same (OnDefinitions (definitions.NewDefinedName name scope body)) = refl
   own_same (OnDefinitions (definitions.UpdateDefinedName update)) = ap (option_map (λ (d : Definition). d.body)) (defined_same update (update_body (notations_in b) (core_of b) update.body))
-  own_same (OnDefinitions (definitions.DeleteDefinedName name scope)) = refl
-  own_same (OnDefinitions (definitions.WouldCaptureName update)) = refl
-  own_same (OnDefinitions (definitions.IsValidDefinedName name scope body)) = refl
-  own_same (OnDefinitions definitions.GetDefinedNameList) = refl
-  own_same (OnSheets command) = refl
-  own_same (OnNotation command) = refl
-  own_same (OnReading command) = refl
-  own_same (OnExtending command) = refl
-  own_same (OnStyles command) = refl
-  own_same (OnLayout command) = refl
-  own_same (OnTabs command) = refl
+  own_same command = refl
 
   -- what a command leaves, whether it is accepted or not
   abbrev LeavesWith : Stepped Book → Stepped Book → Type 0
@@ -283,7 +260,7 @@ module _ (m : Metadata) (b : Book) where
   by_reading (Err refusal) (Ok more) h k = sym k
   by_reading (Err refusal) (Err other) h k = refl
 
-  left_by_reader : (reads : Bool) (command : Command) → Follows reads command → LeavesIf reads b (step b command) → LeavesIf reads (M b) (step (M b) command) → LeavesWith (step b command) (step (M b) command)
+  left_by_reader : (reads : Bool) (command : Command) → Follows reads (action command) → LeavesIf reads b (step b command) → LeavesIf reads (M b) (step (M b) command) → LeavesWith (step b command) (step (M b) command)
   left_by_reader true command f h k = by_reading (step b command) (step (M b) command) h k
   left_by_reader false command f h k = subst (LeavesWith (step b command)) f (by_step (step b command))
 
@@ -313,7 +290,7 @@ module _ (m : Metadata) (b : Book) where
     by_left command (Ok done) = why_own (own_formula b command) ∙ ap (option_and_then (why_not (in_notation locale language (M b)))) (own_same command)
     by_left command (Err refusal) = refl
 
-    by_drop : (reads switches : Bool) (command : Command) → Follows reads command
+    by_drop : (reads switches : Bool) (command : Command) → Follows reads (action command)
         → why_kept b (cond (reads || switches) None (option_map (λ left. let kept : Command × Book = (command, left) in kept) (left_by (step b command))))
         ≡ why_kept (M b) (cond (reads || switches) None (option_map (λ left. let kept : Command × Book = (command, left) in kept) (left_by (step (M b) command))))
     by_drop true switches command f = refl

@@ -43,11 +43,10 @@ module _ (b : Book) (valid : IsValidBook b) where
   sheets_stay (sheets.DeleteSheetBySheetId id) =
       let index : ℕ = unwrap_or (index_of_id (core_of b) id) 0 in
       stays_lifted b valid (OnSheets (sheets.DeleteSheetBySheetId id)) (core.DeleteSheetBySheetId id) (changed_by (with_removed_sheet index) b) refl (core_step (notations_in b) (core_of b) (core.DeleteSheetBySheetId id)) refl (removed_stays b valid index)
-  sheets_stay sheets.GetNewSheetId = stays_leaving b valid _ (readers_leave b (OnSheets sheets.GetNewSheetId))
-  sheets_stay sheets.GetWorksheetsProperties = stays_leaving b valid _ (readers_leave b (OnSheets sheets.GetWorksheetsProperties))
   sheets_stay (sheets.InsertSheet name index id) = by_asking (is_given_id id) _ (insert_stays b valid name index id)
   sheets_stay sheets.NewSheet = new_sheet_stays b valid
   sheets_stay (sheets.DuplicateSheet sheet) = duplicate_stays b valid sheet
+  sheets_stay command = stays_leaving b valid _ (readers_leave b (OnSheets command))
 
   pub definitions_stay : (command : definitions.Definitions) → StaysValid (definition_step b command)
   unfolding new_definition_step delete_definition_step
@@ -59,7 +58,5 @@ module _ (b : Book) (valid : IsValidBook b) where
       let index : Option ℕ = index_of_definition (core_of b) name (scope_or_none (core_of b) scope) in
       stays_lifted b valid (OnDefinitions (definitions.DeleteDefinedName name scope)) (core.DeleteDefinedName name scope) (changed_by (without_definition index) b) refl (core_step (notations_in b) (core_of b) (core.DeleteDefinedName name scope)) refl
       (undefined_stays b valid index)
-  definitions_stay (definitions.WouldCaptureName update) = stays_leaving b valid _ (readers_leave b (OnDefinitions (definitions.WouldCaptureName update)))
-  definitions_stay (definitions.IsValidDefinedName name scope body) = stays_leaving b valid _ (readers_leave b (OnDefinitions (definitions.IsValidDefinedName name scope body)))
-  definitions_stay definitions.GetDefinedNameList = stays_leaving b valid _ (readers_leave b (OnDefinitions definitions.GetDefinedNameList))
   definitions_stay (definitions.UpdateDefinedName update) = update_name_stays b valid update
+  definitions_stay command = stays_leaving b valid _ (readers_leave b (OnDefinitions command))

@@ -1,12 +1,10 @@
 -- Each command that looks at the notation for no more than how it replies and which styles it gives leaves the same of books
 -- that are the same.
-use Rattle.std.proofs.Common.{◌≡◌, ℕ, List, [], ◌∷◌, Bool, true, false, not, refl, ap, subst}
-use Rattle.std.specs.Prelude.{int_le, int_lt, pos}
-use Rattle.ic_laws.specs.declared.reference.TheConstants.{LAST_COLUMN, LAST_ROW}
+use Rattle.std.proofs.Common.{◌≡◌, ℕ, List, [], ◌∷◌, Bool, true, false, not, Ok, Err, refl, ap, subst}
 use Rattle.ic_tables.specs.Tables.{TableSet, lists_zone}
-use Rattle.ic_machine.specs.Book.{Book, Tab}
+use Rattle.ic_machine.specs.Book.{Book, Stepped, Tab, on_tab}
 use Rattle.ic_machine.specs.Command.{Command, OnArrays, OnDefinitions, OnExtending, OnLayout, OnNotation, OnReading, OnSheets, OnStyles, OnTabs, OnWriting}
-use Rattle.ic_machine.specs.Refusal.{Causes, FrozenNegative, InvalidTimezone, TooManyColumns, TooManyRows}
+use Rattle.ic_machine.specs.Refusal.{Causes, InvalidTimezone}
 use Rattle.ic_machine.specs.Same.{IsSameBook}
 use Rattle.ic_machine.specs.Step.{step}
 use Rattle.ic_machine.specs.TranslationLaws.{OthersAreSame, looks_at_notation}
@@ -21,7 +19,7 @@ use Rattle.ic_machine.specs.subjects.Sheets as sheets
 use Rattle.ic_machine.specs.subjects.Styles as styles
 use Rattle.ic_machine.specs.subjects.Styles.{delete_column_step, delete_row_step}
 use Rattle.ic_machine.specs.subjects.Tabs as tabs
-use Rattle.ic_machine.specs.subjects.Tabs.{color_step, freeze_columns_step, freeze_rows_step, grid_lines_step, set_theme_step, state_step}
+use Rattle.ic_machine.specs.subjects.Tabs.{set_theme_step}
 use Rattle.ic_machine.specs.subjects.Writing as writing
 use Rattle.ic_machine.proofs.GridsSame.{clear_same, column_hidden_same, column_style_same, column_unstyled, height_same, row_hidden_same, row_style_same, row_unstyled, spill_same, value_same, width_same}
 use Rattle.ic_machine.proofs.SameSteps.{SameSteps, leaves_same, on_grid_same, on_tab_same, refused_same}
@@ -43,7 +41,6 @@ module _ (b c : Book) (same : IsSameBook b c) where
   on_sheets : (command : sheets.Sheets) → SameIf (looks_at_notation (OnSheets command)) b c (OnSheets command)
   on_sheets (sheets.AddSheet name) = add_same b c same name
   on_sheets (sheets.InsertSheet name index id) = insert_same b c same name index id
-  on_sheets sheets.NewSheet = tt
   on_sheets (sheets.DuplicateSheet sheet) = duplicate_same b c same sheet
   on_sheets (sheets.RenameSheet old new) = rename_same b c same old new
   on_sheets (sheets.RenameSheetByIndex sheet name) = rename_by_index_same b c same sheet name
@@ -51,79 +48,63 @@ module _ (b c : Book) (same : IsSameBook b c) where
   on_sheets (sheets.DeleteSheet sheet) = delete_same b c same sheet
   on_sheets (sheets.DeleteSheetByName name) = delete_by_name_same b c same name
   on_sheets (sheets.DeleteSheetBySheetId id) = delete_by_id_same b c same id
-  on_sheets sheets.GetNewSheetId = tt
-  on_sheets sheets.GetWorksheetsProperties = tt
+  on_sheets command = tt
 
   on_definitions : (command : definitions.Definitions) → SameIf (looks_at_notation (OnDefinitions command)) b c (OnDefinitions command)
-  on_definitions (definitions.NewDefinedName name scope body) = tt
   on_definitions (definitions.DeleteDefinedName name scope) = delete_definition_same b c same name scope
-  on_definitions (definitions.UpdateDefinedName update) = tt
-  on_definitions (definitions.WouldCaptureName update) = tt
-  on_definitions (definitions.IsValidDefinedName name scope body) = tt
-  on_definitions definitions.GetDefinedNameList = tt
+  on_definitions command = tt
 
   on_notation : (command : notation.Notation) → SameIf (looks_at_notation (OnNotation command)) b c (OnNotation command)
   unfolding set_timezone_step
-  on_notation (notation.SetLocale id) = tt
-  on_notation (notation.SetLanguage id) = tt
   on_notation (notation.SetTimezone id) =
       refused_same IsSameBook ((not (lists_zone b.tables id), InvalidTimezone) ∷ []) ((not (lists_zone c.tables id), InvalidTimezone) ∷ []) _ _ [] []
       (ap (λ (tables : TableSet). let causes : Causes = (not (lists_zone tables id), InvalidTimezone) ∷ [] in causes) same.tables) (zoned id)
-  on_notation notation.GetLocale = tt
-  on_notation notation.GetLanguage = tt
-  on_notation notation.GetTimezone = tt
-  on_notation notation.GetFmtSettings = tt
+  on_notation command = tt
 
   on_writing : (command : writing.Writing) → SameIf (looks_at_notation (OnWriting command)) b c (OnWriting command)
-  on_writing (writing.SetUserInput sheet row column text) = tt
   on_writing (writing.UpdateCellWithText sheet row column text) = text_same b c same sheet (row, column) text
-  on_writing (writing.UpdateCellWithFormula sheet row column text) = tt
   on_writing (writing.UpdateCellWithBool sheet row column truth) = bool_same b c same sheet (row, column) truth
   on_writing (writing.UpdateCellWithNumber sheet row column amount) = number_same b c same sheet (row, column) amount
+  on_writing command = tt
 
   on_styles : (command : styles.Styles) → SameIf (looks_at_notation (OnStyles command)) b c (OnStyles command)
-  on_styles (styles.GetCellStyleIndex sheet row column) = tt
-  on_styles (styles.GetStyleForCell sheet row column) = tt
-  on_styles (styles.GetCellStyleOrNone sheet row column) = tt
   on_styles (styles.SetColumnStyle sheet column style) = column_style_same b c same sheet column style
   on_styles (styles.SetRowStyle sheet row style) = row_style_same b c same sheet row style
-  on_styles (styles.GetColumnStyle sheet column) = tt
-  on_styles (styles.GetRowStyle sheet row) = tt
   on_styles (styles.DeleteColumnStyle sheet column) = on_grid_same b c same sheet (delete_column_step column) (λ g h grids. column_unstyled g h grids column)
   on_styles (styles.DeleteRowStyle sheet row) = on_grid_same b c same sheet (delete_row_step row) (λ g h grids. row_unstyled g h grids row)
+  on_styles command = tt
 
   on_layout : (command : layout.Layout) → SameIf (looks_at_notation (OnLayout command)) b c (OnLayout command)
   on_layout (layout.SetColumnWidth sheet column width) = on_grid_same b c same sheet (set_width_step column width) (λ g h grids. width_same g h grids column width)
   on_layout (layout.SetRowHeight sheet row height) = on_grid_same b c same sheet (set_height_step row height) (λ g h grids. height_same g h grids row height)
-  on_layout (layout.GetColumnWidth sheet column) = tt
-  on_layout (layout.GetRowHeight sheet row) = tt
   on_layout (layout.SetColumnHidden sheet column hidden) = on_grid_same b c same sheet (hide_column_step column hidden) (λ g h grids. column_hidden_same g h grids column hidden)
   on_layout (layout.SetRowHidden sheet row hidden) = on_grid_same b c same sheet (hide_row_step row hidden) (λ g h grids. row_hidden_same g h grids row hidden)
-  on_layout (layout.IsColumnHidden sheet column) = tt
-  on_layout (layout.IsRowHidden sheet row) = tt
+  on_layout command = tt
+
+  -- a step on a tab is the same on the same tab
+  itself : (stepped : Stepped Tab) → SameSteps (◌≡◌ {A = Tab}) stepped stepped
+  itself (Ok done) = refl
+  itself (Err refusal) = tt
+
+  on_a_tab : (index : ℕ) (f : Tab → Stepped Tab) → SameSteps IsSameBook (on_tab b index f) (on_tab c index f)
+  on_a_tab index f = on_tab_same b c same index f (λ u. itself (f u))
 
   on_tabs : (command : tabs.Tabs) → SameIf (looks_at_notation (OnTabs command)) b c (OnTabs command)
-  unfolding set_theme_step freeze_rows_step freeze_columns_step color_step state_step grid_lines_step
+  unfolding set_theme_step
   on_tabs (tabs.SetTheme name) = themed name
-  on_tabs tabs.GetTheme = tt
-  on_tabs (tabs.SetFrozenRows sheet count) =
-      on_tab_same b c same sheet (freeze_rows_step count)
-      (λ u. refused_same (◌≡◌ {A = Tab}) ((int_lt count (pos 0), FrozenNegative) ∷ (int_le LAST_ROW count, TooManyRows) ∷ []) _ _ _ [] [] refl refl)
-  on_tabs (tabs.SetFrozenColumns sheet count) =
-      on_tab_same b c same sheet (freeze_columns_step count)
-      (λ u. refused_same (◌≡◌ {A = Tab}) ((int_lt count (pos 0), FrozenNegative) ∷ (int_le LAST_COLUMN count, TooManyColumns) ∷ []) _ _ _ [] [] refl refl)
-  on_tabs (tabs.GetFrozenRowsCount sheet) = tt
-  on_tabs (tabs.GetFrozenColumnsCount sheet) = tt
-  on_tabs (tabs.SetSheetColor sheet color) = on_tab_same b c same sheet (color_step color) (λ u. refl)
-  on_tabs (tabs.SetSheetState sheet state) = on_tab_same b c same sheet (state_step state) (λ u. refl)
-  on_tabs (tabs.SetShowGridLines sheet shows) = on_tab_same b c same sheet (grid_lines_step shows) (λ u. refl)
+  on_tabs (tabs.SetFrozenRows sheet count) = on_a_tab sheet _
+  on_tabs (tabs.SetFrozenColumns sheet count) = on_a_tab sheet _
+  on_tabs (tabs.SetSheetColor sheet color) = on_a_tab sheet _
+  on_tabs (tabs.SetSheetState sheet state) = on_a_tab sheet _
+  on_tabs (tabs.SetShowGridLines sheet shows) = on_a_tab sheet _
+  on_tabs command = tt
 
   on_arrays : (command : arrays.Arrays) → SameIf (looks_at_notation (OnArrays command)) b c (OnArrays command)
-  on_arrays (arrays.SetUserArrayFormula sheet block text) = tt
   on_arrays (arrays.RangeClearContents sheet block) = on_grid_same b c same sheet (clear_step false block) (λ g h grids. clear_same g h grids false block)
   on_arrays (arrays.RangeClearAll sheet block) = on_grid_same b c same sheet (clear_step true block) (λ g h grids. clear_same g h grids true block)
   on_arrays (arrays.PutFormulaValue sheet place value) = on_grid_same b c same sheet (put_value_step place value) (λ g h grids. value_same g h grids place value)
   on_arrays (arrays.PutSpill sheet block values) = on_grid_same b c same sheet (put_spill_step block values) (λ g h grids. spill_same g h grids block values)
+  on_arrays command = tt
 
   all_same : (command : Command) → SameIf (looks_at_notation command) b c command
   all_same (OnSheets command) = on_sheets command

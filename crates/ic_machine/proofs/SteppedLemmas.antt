@@ -9,7 +9,7 @@ use Rattle.ic_laws.specs.FormulaReading.{Body, body_of}
 use Rattle.ic_laws.specs.Refusal as refusals
 use Rattle.ic_machine.specs.Book.{Book, as_core, core_of, notations_in}
 use Rattle.ic_machine.specs.Changed.{changed_by, with_definition, with_moved_sheet, with_removed_sheet, with_renamed_sheet, without_definition}
-use Rattle.ic_machine.specs.Command.{Command, OnArrays, OnDefinitions, OnExtending, OnLayout, OnNotation, OnReading, OnSheets, OnStyles, OnTabs, OnWriting}
+use Rattle.ic_machine.specs.Command.{Command, OnDefinitions, OnNotation, OnReading, OnSheets}
 use Rattle.ic_machine.specs.Core.{IsSteppedAs, core_command, told_by, told_by_core}
 use Rattle.ic_machine.specs.Reply.{of_core_fields}
 use Rattle.ic_machine.specs.subjects.Definitions as definitions
@@ -66,10 +66,7 @@ module _ (b : Book) where
   sheets_are (sheets.DeleteSheetBySheetId id) =
       told_found (core.index_of_id (core_of b) id) (λ index. core.delete_step (notations_in b) (core_of b) index) (λ index. changed_by (with_removed_sheet index) b) deleted
   sheets_are sheets.GetNewSheetId = refl
-  sheets_are (sheets.InsertSheet name index id) = tt
-  sheets_are sheets.NewSheet = tt
-  sheets_are (sheets.DuplicateSheet sheet) = tt
-  sheets_are sheets.GetWorksheetsProperties = tt
+  sheets_are command = tt
 
   definitions_are : (command : definitions.Definitions) → IsSteppedAs b (OnDefinitions command) (core_command (OnDefinitions command))
   unfolding core_step new_definition_step delete_definition_step valid_definition_step list_step
@@ -83,39 +80,22 @@ module _ (b : Book) where
       (core_of-undefined (core.index_of_definition (core_of b) name (core.scope_or_none (core_of b) scope))) b)
   definitions_are (definitions.IsValidDefinedName name scope body) = told (core.new_definition_refusal (notations_in b) (core_of b) name scope body) (core_of b) (commands.NumberField (core.scope_or_none (core_of b) scope) ∷ []) b refl
   definitions_are definitions.GetDefinedNameList = refl
-  definitions_are (definitions.UpdateDefinedName update) = tt
-  definitions_are (definitions.WouldCaptureName update) = tt
+  definitions_are command = tt
 
   notation_is : (command : notation.Notation) → IsSteppedAs b (OnNotation command) (core_command (OnNotation command))
   unfolding core_step set_locale_step set_language_step
   notation_is (notation.SetLocale id) = told (refusals.first_refusal ((not ((notations_in b).knows_locale id), refusals.InvalidLocale) ∷ [])) (record (core_of b) { locale = id }) [] (record b { locale = id }) refl
   notation_is (notation.SetLanguage id) = told (refusals.first_refusal ((not ((notations_in b).knows_language id), refusals.InvalidLanguage) ∷ [])) (record (core_of b) { language = id }) [] (record b { language = id }) refl
-  notation_is (notation.SetTimezone id) = tt
-  notation_is notation.GetLocale = tt
-  notation_is notation.GetLanguage = tt
-  notation_is notation.GetTimezone = tt
-  notation_is notation.GetFmtSettings = tt
+  notation_is command = tt
 
   reading_is : (command : reading.Reading) → IsSteppedAs b (OnReading command) (core_command (OnReading command))
   unfolding core_step cell_formula_step
   reading_is (reading.GetCellFormula sheet row column) = told _ _ _ b refl
-  reading_is (reading.GetLocalizedCellContent sheet row column) = tt
-  reading_is (reading.GetFormattedCellValue sheet row column) = tt
-  reading_is (reading.GetCellValueByIndex sheet row column) = tt
-  reading_is (reading.GetCellValueByRef text) = tt
-  reading_is (reading.GetCellType sheet row column) = tt
-  reading_is (reading.IsEmptyCell sheet row column) = tt
-  reading_is reading.GetAllCells = tt
-  reading_is (reading.GetSheetMarkup sheet) = tt
+  reading_is command = tt
 
   pub stepped : (command : Command) → IsSteppedAs b command (core_command command)
   stepped (OnSheets command) = sheets_are command
   stepped (OnDefinitions command) = definitions_are command
   stepped (OnNotation command) = notation_is command
   stepped (OnReading command) = reading_is command
-  stepped (OnWriting command) = tt
-  stepped (OnExtending command) = tt
-  stepped (OnStyles command) = tt
-  stepped (OnLayout command) = tt
-  stepped (OnTabs command) = tt
-  stepped (OnArrays command) = tt
+  stepped command = tt

@@ -147,11 +147,6 @@ module _ (b : Book) (valid : IsValidBook b) where
 
 pub styles_stay : (b : Book) (command : Styles) → IsValidBook b → StaysValid (style_step b command)
 unfolding delete_column_step delete_row_step
-styles_stay b (styles.GetCellStyleIndex sheet row column) valid = stays_leaving b valid _ (readers_leave b (OnStyles (styles.GetCellStyleIndex sheet row column)))
-styles_stay b (styles.GetStyleForCell sheet row column) valid = stays_leaving b valid _ (readers_leave b (OnStyles (styles.GetStyleForCell sheet row column)))
-styles_stay b (styles.GetCellStyleOrNone sheet row column) valid = stays_leaving b valid _ (readers_leave b (OnStyles (styles.GetCellStyleOrNone sheet row column)))
-styles_stay b (styles.GetColumnStyle sheet column) valid = stays_leaving b valid _ (readers_leave b (OnStyles (styles.GetColumnStyle sheet column)))
-styles_stay b (styles.GetRowStyle sheet row) valid = stays_leaving b valid _ (readers_leave b (OnStyles (styles.GetRowStyle sheet row)))
 styles_stay b (styles.SetColumnStyle sheet column style) valid = column_styled b valid sheet column style
 styles_stay b (styles.SetRowStyle sheet row style) valid = row_styled b valid sheet row style
 styles_stay b (styles.DeleteColumnStyle sheet column) valid =
@@ -172,3 +167,4 @@ styles_stay b (styles.DeleteRowStyle sheet row) valid =
       is = refl;
       lines = from_row_stays b valid row grid l (not-false (is_row row) (not_caused (not (is_row row)) InvalidRow clear)) (finite.get grid.rows row);
     }))
+styles_stay b command valid = stays_leaving b valid _ (readers_leave b (OnStyles command))

@@ -15,20 +15,20 @@ use Rattle.ic_cells.specs.declared.layout.ColumnProps.{ColumnProps}
 use Rattle.ic_cells.specs.declared.layout.RowProps.{RowProps}
 use Rattle.ic_tables.specs.Tables.{lists_zone}
 use Rattle.ic_machine.specs.Book.{Book, Grid, Tab, as_core, core_of, notations_in, unless, unless_refused}
-use Rattle.ic_machine.specs.Command.{OnExtending, OnNotation, OnReading}
+use Rattle.ic_machine.specs.Command.{OnExtending, OnLayout, OnNotation, OnReading, OnTabs}
 use Rattle.ic_machine.specs.Kept.{StaysValid}
 use Rattle.ic_machine.specs.Line.{column_causes, column_of, plain_column, plain_row, row_causes, row_of, with_column, with_row}
-use Rattle.ic_machine.specs.Refusal.{Causes, FrozenNegative, InvalidColumn, InvalidRow, InvalidTimezone, Refusal, TooManyColumns, TooManyRows, first_refusal}
+use Rattle.ic_machine.specs.Refusal.{FrozenNegative, InvalidColumn, InvalidRow, InvalidTimezone, Refusal, TooManyColumns, TooManyRows, first_refusal}
 use Rattle.ic_machine.specs.Reply.{Field}
 use Rattle.ic_machine.specs.Valid.{IsFrozen, IsStyleNumber, IsValidBook}
 use Rattle.ic_machine.specs.subjects.Extending.{Extending, extending_step}
 use Rattle.ic_machine.specs.subjects.Layout as layout
-use Rattle.ic_machine.specs.subjects.Layout.{Layout, column_hidden_step, get_height_step, get_width_step, hide_column_step, hide_row_step, layout_step, row_hidden_step, set_height_step, set_width_step}
+use Rattle.ic_machine.specs.subjects.Layout.{Layout, hide_column_step, hide_row_step, layout_step, set_height_step, set_width_step}
 use Rattle.ic_machine.specs.subjects.Notation as notation
 use Rattle.ic_machine.specs.subjects.Notation.{Notation, notation_step, set_language_step, set_locale_step, set_timezone_step}
 use Rattle.ic_machine.specs.subjects.Reading.{Reading, reading_step}
 use Rattle.ic_machine.specs.subjects.Tabs as tabs
-use Rattle.ic_machine.specs.subjects.Tabs.{Tabs, color_step, freeze_columns_step, freeze_rows_step, frozen_columns_step, frozen_rows_step, get_theme_step, grid_lines_step, set_theme_step, state_step, tab_step}
+use Rattle.ic_machine.specs.subjects.Tabs.{Tabs, color_step, freeze_columns_step, freeze_rows_step, grid_lines_step, set_theme_step, state_step, tab_step}
 use Rattle.ic_machine.proofs.ReaderLemmas.{readers_leave}
 use Rattle.ic_machine.proofs.ValidLemmas.{AreLines, HasNewLines, LinesStay, TabStays, column_put, grids_stay, row_put, stays_leaving, stays_unless, tabs_stay}
 
@@ -81,10 +81,7 @@ notation_stays b (notation.SetLanguage id) valid =
 notation_stays b (notation.SetTimezone id) valid =
     stays_unless _ (record b { zone = id }) []
     (λ e. with_notation b b.locale b.language id b.theme valid valid.locale valid.language (not-false (lists_zone b.tables id) (not_caused (not (lists_zone b.tables id)) InvalidTimezone e)))
-notation_stays b notation.GetLocale valid = stays_leaving b valid _ (readers_leave b (OnNotation notation.GetLocale))
-notation_stays b notation.GetLanguage valid = stays_leaving b valid _ (readers_leave b (OnNotation notation.GetLanguage))
-notation_stays b notation.GetTimezone valid = stays_leaving b valid _ (readers_leave b (OnNotation notation.GetTimezone))
-notation_stays b notation.GetFmtSettings valid = stays_leaving b valid _ (readers_leave b (OnNotation notation.GetFmtSettings))
+notation_stays b command valid = stays_leaving b valid _ (readers_leave b (OnNotation command))
 
 pub reading_stays : (b : Book) (command : Reading) → IsValidBook b → StaysValid (reading_step b command)
 reading_stays b command valid = stays_leaving b valid _ (readers_leave b (OnReading command))
@@ -102,9 +99,8 @@ frozen : (count last : ℤ) → int_lt count (pos 0) ≡ false → int_le last c
 frozen count last p q = (omega (arith, ints), omega (arith, ints))
 
 pub tabs_are : (b : Book) (command : Tabs) → IsValidBook b → StaysValid (tab_step b command)
-unfolding set_theme_step get_theme_step freeze_rows_step freeze_columns_step frozen_rows_step frozen_columns_step color_step state_step grid_lines_step
+unfolding set_theme_step freeze_rows_step freeze_columns_step color_step state_step grid_lines_step
 tabs_are b (tabs.SetTheme name) valid = with_notation b b.locale b.language b.zone name valid valid.locale valid.language valid.zone
-tabs_are b tabs.GetTheme valid = valid
 tabs_are b (tabs.SetFrozenRows sheet count) valid =
     tabs_stay b valid sheet (freeze_rows_step count)
     (λ tab h. tab_unless _ (record tab { frozen_rows = count }) []
@@ -119,14 +115,13 @@ tabs_are b (tabs.SetFrozenColumns sheet count) valid =
     let parts = two_not_caused (int_lt count (pos 0)) (int_le LAST_COLUMN count) FrozenNegative TooManyColumns e in
     let is = frozen count LAST_COLUMN parts.0 parts.1 in
     record { some_rows = h.some_rows; few_rows = h.few_rows; some_columns = is.0; few_columns = is.1 }))
-tabs_are b (tabs.GetFrozenRowsCount sheet) valid = tabs_stay b valid sheet frozen_rows_step (λ tab h. h)
-tabs_are b (tabs.GetFrozenColumnsCount sheet) valid = tabs_stay b valid sheet frozen_columns_step (λ tab h. h)
 tabs_are b (tabs.SetSheetColor sheet color) valid =
     tabs_stay b valid sheet (color_step color) (λ tab h. record { some_rows = h.some_rows; few_rows = h.few_rows; some_columns = h.some_columns; few_columns = h.few_columns })
 tabs_are b (tabs.SetSheetState sheet state) valid =
     tabs_stay b valid sheet (state_step state) (λ tab h. record { some_rows = h.some_rows; few_rows = h.few_rows; some_columns = h.some_columns; few_columns = h.few_columns })
 tabs_are b (tabs.SetShowGridLines sheet shows) valid =
     tabs_stay b valid sheet (grid_lines_step shows) (λ tab h. record { some_rows = h.some_rows; few_rows = h.few_rows; some_columns = h.some_columns; few_columns = h.few_columns })
+tabs_are b command valid = stays_leaving b valid _ (readers_leave b (OnTabs command))
 
 -- layout ----
 
@@ -143,9 +138,6 @@ plain_or_column count P None p h = p
 plain_or_column count P (Some props) p h = h props refl
 
 module _ (count : ℕ) (grid : Grid) (lines : AreLines count grid.rows grid.columns) where
-  same_lines : HasNewLines count grid grid
-  same_lines = record { rows = grid.rows; columns = grid.columns; is = refl; lines = lines }
-
   row_style : (row : ℤ) → IsStyleNumber count (row_of grid.rows row).style
   row_style row = plain_or count (λ props. IsStyleNumber count props.style) (finite.get grid.rows row) tt (λ props e. lines.row_styles row props e)
 
@@ -174,20 +166,14 @@ module _ (count : ℕ) (grid : Grid) (lines : AreLines count grid.rows grid.colu
         lines = column_put count grid.rows grid.columns lines column (change (column_of grid.columns column)) (not-false (is_column column) (not_caused (not (is_column column)) InvalidColumn e)) style;
       })
 
-  read_lines : (causes : Causes) (fields : List Field) → LinesStay count grid (unless_refused causes grid fields)
-  read_lines causes fields = lines_unless count grid (first_refusal causes) grid fields (λ e. same_lines)
-
 pub layout_stays : (b : Book) (command : Layout) → IsValidBook b → StaysValid (layout_step b command)
-unfolding set_width_step set_height_step get_width_step get_height_step hide_column_step hide_row_step column_hidden_step row_hidden_step
+unfolding set_width_step set_height_step hide_column_step hide_row_step
 layout_stays b (layout.SetColumnWidth sheet column width) valid =
     grids_stay b valid sheet (set_width_step column width) (λ grid l. column_changed (length b.styles) grid l column (λ props. record props { width = Some width }) [] (column_style (length b.styles) grid l column))
 layout_stays b (layout.SetRowHeight sheet row height) valid =
     grids_stay b valid sheet (set_height_step row height) (λ grid l. row_changed (length b.styles) grid l row (λ props. record props { height = Some height }) [] (row_style (length b.styles) grid l row))
-layout_stays b (layout.GetColumnWidth sheet column) valid = grids_stay b valid sheet (get_width_step column) (λ grid l. read_lines (length b.styles) grid l (column_causes column) _)
-layout_stays b (layout.GetRowHeight sheet row) valid = grids_stay b valid sheet (get_height_step row) (λ grid l. read_lines (length b.styles) grid l (row_causes row) _)
 layout_stays b (layout.SetColumnHidden sheet column hidden) valid =
     grids_stay b valid sheet (hide_column_step column hidden) (λ grid l. column_changed (length b.styles) grid l column (λ props. record props { hidden = hidden }) [] (column_style (length b.styles) grid l column))
 layout_stays b (layout.SetRowHidden sheet row hidden) valid =
     grids_stay b valid sheet (hide_row_step row hidden) (λ grid l. row_changed (length b.styles) grid l row (λ props. record props { hidden = hidden }) [] (row_style (length b.styles) grid l row))
-layout_stays b (layout.IsColumnHidden sheet column) valid = grids_stay b valid sheet (column_hidden_step column) (λ grid l. read_lines (length b.styles) grid l (column_causes column) _)
-layout_stays b (layout.IsRowHidden sheet row) valid = grids_stay b valid sheet (row_hidden_step row) (λ grid l. read_lines (length b.styles) grid l (row_causes row) _)
+layout_stays b command valid = stays_leaving b valid _ (readers_leave b (OnLayout command))

@@ -1,17 +1,18 @@
--- All commands: one table, joined from those of ten subjects, and the command that a line is.
+-- All commands: one table, joined from those of ten subjects, what each does, and the command that a line is.
 use Rattle.std.specs.Prelude.{ℕ, List, ◌++◌, map, Option}
 use Rattle.ic_laws.specs.Lines as lines
+use Rattle.ic_machine.specs.Action.{Action, Asks, ChangesCells}
 use Rattle.ic_machine.specs.Row.{Row, row_in, spelled}
-use Rattle.ic_machine.specs.subjects.Arrays.{Arrays, array_rows}
-use Rattle.ic_machine.specs.subjects.Definitions.{Definitions, definition_rows}
-use Rattle.ic_machine.specs.subjects.Extending.{Extending, extending_rows}
-use Rattle.ic_machine.specs.subjects.Layout.{Layout, layout_rows}
-use Rattle.ic_machine.specs.subjects.Notation.{Notation, notation_rows}
-use Rattle.ic_machine.specs.subjects.Reading.{Reading, reading_rows}
-use Rattle.ic_machine.specs.subjects.Sheets.{Sheets, sheet_rows}
-use Rattle.ic_machine.specs.subjects.Styles.{Styles, style_rows}
-use Rattle.ic_machine.specs.subjects.Tabs.{Tabs, tab_rows}
-use Rattle.ic_machine.specs.subjects.Writing.{Writing, writing_rows}
+use Rattle.ic_machine.specs.subjects.Arrays.{Arrays, array_rows, arrays_action}
+use Rattle.ic_machine.specs.subjects.Definitions.{Definitions, definition_action, definition_rows}
+use Rattle.ic_machine.specs.subjects.Extending.{Extending, extending_rows, extending_step}
+use Rattle.ic_machine.specs.subjects.Layout.{Layout, layout_action, layout_rows}
+use Rattle.ic_machine.specs.subjects.Notation.{Notation, notation_action, notation_rows}
+use Rattle.ic_machine.specs.subjects.Reading.{Reading, reading_rows, reading_step}
+use Rattle.ic_machine.specs.subjects.Sheets.{Sheets, sheet_action, sheet_rows}
+use Rattle.ic_machine.specs.subjects.Styles.{Styles, style_action, style_rows}
+use Rattle.ic_machine.specs.subjects.Tabs.{Tabs, tab_action, tab_rows}
+use Rattle.ic_machine.specs.subjects.Writing.{Writing, writing_rows, writing_step}
 
 pub data Command : Type 0 where
   OnSheets : Sheets → Command
@@ -24,6 +25,19 @@ pub data Command : Type 0 where
   OnLayout : Layout → Command
   OnTabs : Tabs → Command
   OnArrays : Arrays → Command
+
+-- what each does: all commands that read cells, and those that write a formula out for another, only ask
+abbrev pub action : Command → Action
+action (OnSheets command) = sheet_action command
+action (OnDefinitions command) = definition_action command
+action (OnNotation command) = notation_action command
+action (OnWriting command) = ChangesCells (λ book. writing_step book command)
+action (OnReading command) = Asks (λ book. reading_step book command)
+action (OnExtending command) = Asks (λ book. extending_step book command)
+action (OnStyles command) = style_action command
+action (OnLayout command) = layout_action command
+action (OnTabs command) = tab_action command
+action (OnArrays command) = arrays_action command
 
 -- the whole table
 unfoldable pub commands : List (Row Command)

@@ -1,3 +1,4 @@
+pub mod Action
 pub mod Alike
 pub mod Binds
 pub mod Book
@@ -12,6 +13,7 @@ pub mod Format
 pub mod FormattedLaws
 pub mod InForce
 pub mod Kept
+pub mod Kinds
 pub mod Laws
 pub mod Line
 pub mod Lost

@@ -1,13 +1,12 @@
 -- The commands that touch the cells, the layout or the tab of one sheet, or none: what formulas can mention stays.
 use Rattle.std.specs.Prelude.{◌≡◌, Bool, true, false, Ok, Err}
+use Rattle.ic_machine.specs.Action.{leaves_lists}
 use Rattle.ic_machine.specs.Book.{Book, Stepped, scene_in}
-use Rattle.ic_machine.specs.Command.{Command, OnDefinitions, OnSheets}
+use Rattle.ic_machine.specs.Command.{Command, action}
 
--- all subjects but those on sheets and on definitions
+-- all but those that change the list of sheets or that of definitions
 abbrev pub leaves_names : Command → Bool
-leaves_names (OnSheets command) = false
-leaves_names (OnDefinitions command) = false
-leaves_names command = true
+leaves_names command = leaves_lists (action command)
 
 -- what formulas can mention is what they could before
 abbrev pub KeepsScene : Book → Stepped Book → Type 0

@@ -1,38 +1,20 @@
--- One step of the whole machine, by subjects; and what a line leaves and answers.
+-- One step of the whole machine; and what a line leaves and answers.
 use Rattle.std.specs.Prelude.{ℕ, List, Option, Some, None, Ok, Err}
 use Rattle.ic_laws.specs.Notations.{Notations}
 use Rattle.ic_laws.specs.Command as core
 use Rattle.ic_laws.specs.CoreBook.{CoreBook}
 use Rattle.ic_laws.specs.Lines as lines
 use Rattle.ic_tables.specs.Tables.{english, error_words_in}
+use Rattle.ic_machine.specs.Action.{perform}
 use Rattle.ic_machine.specs.Book.{Book, Stepped}
-use Rattle.ic_machine.specs.Command.{Command, OnArrays, OnDefinitions, OnExtending, OnLayout, OnNotation, OnReading, OnSheets, OnStyles, OnTabs, OnWriting, command_in}
+use Rattle.ic_machine.specs.Command.{Command, action, command_in}
 use Rattle.ic_machine.specs.Refusal.{BadLine}
 use Rattle.ic_machine.specs.Reply.{Reply, reply_bytes}
 use Rattle.ic_machine.specs.Row.{Row}
 use Rattle.ic_machine.specs.Run.{Machine}
-use Rattle.ic_machine.specs.subjects.Arrays.{arrays_step}
-use Rattle.ic_machine.specs.subjects.Definitions.{definition_step}
-use Rattle.ic_machine.specs.subjects.Extending.{extending_step}
-use Rattle.ic_machine.specs.subjects.Layout.{layout_step}
-use Rattle.ic_machine.specs.subjects.Notation.{notation_step}
-use Rattle.ic_machine.specs.subjects.Reading.{reading_step}
-use Rattle.ic_machine.specs.subjects.Sheets.{sheet_step}
-use Rattle.ic_machine.specs.subjects.Styles.{style_step}
-use Rattle.ic_machine.specs.subjects.Tabs.{tab_step}
-use Rattle.ic_machine.specs.subjects.Writing.{writing_step}
 
 abbrev pub step : Book → Command → Stepped Book
-step book (OnSheets command) = sheet_step book command
-step book (OnDefinitions command) = definition_step book command
-step book (OnNotation command) = notation_step book command
-step book (OnWriting command) = writing_step book command
-step book (OnReading command) = reading_step book command
-step book (OnExtending command) = extending_step book command
-step book (OnStyles command) = style_step book command
-step book (OnLayout command) = layout_step book command
-step book (OnTabs command) = tab_step book command
-step book (OnArrays command) = arrays_step book command
+step book command = perform book (action command)
 
 -- a refused command changes nothing
 abbrev pub outcome_of : Book → Stepped Book → Book × Reply

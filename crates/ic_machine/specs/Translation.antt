@@ -1,6 +1,6 @@
 -- What command lines become in another notation, so that they leave the same book: which lines go, what the others become,
 -- and which can't be translated.
-use Rattle.std.specs.Prelude.{◌≡◌, ℕ, ◌+◌, ◌-◌, List, [], ◌∷◌, take, Bool, true, false, ◌||◌, Option, Some, None, option_and_then, option_map, unwrap_or, Result, Ok, Err, slice_get, codes, if◌then◌else◌}
+use Rattle.std.specs.Prelude.{◌≡◌, ℕ, ◌+◌, ◌-◌, List, [], ◌∷◌, take, Bool, true, ◌||◌, Option, Some, None, option_and_then, option_map, unwrap_or, Result, Ok, Err, slice_get, codes, if◌then◌else◌}
 use Rattle.std.specs.List.{join_by}
 use Rattle.std.specs.Option.{option_map_or}
 use Rattle.ic_laws.specs.Binding.{bound}
@@ -15,8 +15,9 @@ use Rattle.ic_laws.specs.declared.tree.Formula.TheVariants as formulas
 use Rattle.ic_input.specs.declared.input.Typed.{Typed}
 use Rattle.ic_input.specs.declared.input.Typed.TheVariants as kinds
 use Rattle.ic_grid.specs.Block.{first_place}
+use Rattle.ic_machine.specs.Action.{chooses_notation}
 use Rattle.ic_machine.specs.Book.{Book, Stepped, core_of, notations_in}
-use Rattle.ic_machine.specs.Command.{Command, OnArrays, OnDefinitions, OnNotation, OnSheets, OnWriting, command_in, commands}
+use Rattle.ic_machine.specs.Command.{Command, OnArrays, OnDefinitions, OnSheets, OnWriting, action, command_in, commands}
 use Rattle.ic_machine.specs.InForce.{formula_typed, is_number, shown_words, typed_in}
 use Rattle.ic_machine.specs.Readers.{is_reader}
 use Rattle.ic_machine.specs.Retyped.{clashes_in}
@@ -24,7 +25,6 @@ use Rattle.ic_machine.specs.Run.{after}
 use Rattle.ic_machine.specs.Step.{english_errors, line_step, machine, step}
 use Rattle.ic_machine.specs.subjects.Arrays.{Arrays, SetUserArrayFormula}
 use Rattle.ic_machine.specs.subjects.Definitions.{Definitions, NewDefinedName, Update, UpdateDefinedName, new_scope_id, scene_updated, update_body}
-use Rattle.ic_machine.specs.subjects.Notation.{SetLanguage, SetLocale}
 use Rattle.ic_machine.specs.subjects.Reading.{formula_text}
 use Rattle.ic_machine.specs.subjects.Sheets.{NewSheet, Sheets, new_sheet_name}
 use Rattle.ic_machine.specs.subjects.Writing.{SetUserInput, UpdateCellWithFormula, Writing, formula_at_place}
@@ -91,9 +91,7 @@ why_not target (formulas.Tree t) = if clashes_in target t then Some Clash else N
 
 -- the command is one of the two that choose the notation
 abbrev pub is_switch : Command → Bool
-is_switch (OnNotation (SetLocale id)) = true
-is_switch (OnNotation (SetLanguage id)) = true
-is_switch command = false
+is_switch command = chooses_notation (action command)
 
 -- readers and switches go
 abbrev pub is_dropped : Command → Bool

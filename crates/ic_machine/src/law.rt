@@ -6,7 +6,7 @@ ghost use Rattle.ic_machine.specs.Binds.{DefinedIsMeant, InsertedIsMeant};
 ghost use Rattle.ic_machine.specs.Binds.{DeletedIsNotMeant, NewIsMeant};
 ghost use Rattle.ic_machine.specs.Binds.{RenamedByNameIsMeant, RenamedIsMeant, UpdatedIsMeant};
 ghost use Rattle.ic_machine.specs.Book.{Book};
-ghost use Rattle.ic_machine.specs.Command.{Command};
+ghost use Rattle.ic_machine.specs.Command.{Command, action};
 ghost use Rattle.ic_machine.specs.Content.{content_of, held};
 ghost use Rattle.ic_machine.specs.Core.{FormulaIsStepped, IsSteppedAs, core_command};
 ghost use Rattle.ic_machine.specs.Extended.{CopiedIsOver, CopiedTextStays, ReferenceIsWritten};
@@ -14,6 +14,7 @@ ghost use Rattle.ic_machine.specs.Extended.{ExtendedIsSame, ExtendedIsTyped, Ext
 ghost use Rattle.ic_machine.specs.FormattedLaws.{DateIsCounted, FormattedIsRuled, RuledIsFormatted};
 ghost use Rattle.ic_machine.specs.Kept.{CoreIsValid, CoreStaysValid, KeepsValid, KeepsValidIf};
 ghost use Rattle.ic_machine.specs.Kept.{gives_amount, gives_id};
+ghost use Rattle.ic_machine.specs.Kinds.{IsLeftBy, LeavesSo};
 ghost use Rattle.ic_machine.specs.Laws.{BadLineStays, CounterpartsAreBack, NumbersAreSmall};
 ghost use Rattle.ic_machine.specs.Laws.{CopyIsNamedFirst, CoreIsRead, CoreLinesAreCore};
 ghost use Rattle.ic_machine.specs.Laws.{NewIsNamedFirst, RefusedStays};
@@ -45,13 +46,21 @@ pub fn law_refused_stays()
     ensures { RefusedStays }
 {}
 
+/// What a command leaves of a book is what its kind says: the book itself; another sheet of the same id and name in the place
+/// of one, and maybe other styles; another zone or theme; another locale or language; or other sheets or definitions. All else
+/// is what it was.
+pub fn law_kinds_tell_changes()
+    ensures { (book : Book) (command : Command)
+        → LeavesSo (IsLeftBy (action command)) book (step book command) }
+{}
+
 /// A command that only reads leaves the book as it was.
 pub fn law_readers_change_nothing()
     ensures { (book : Book) (command : Command)
         → LeavesIf (is_reader command) book (step book command) }
 {}
 
-/// A command on the notation, on the cells, the styles, the layout or the tab of a sheet leaves what formulas can mention.
+/// A command that changes neither the list of sheets nor that of definitions leaves what formulas can mention.
 pub fn law_cells_leave_names()
     ensures { (book : Book) (command : Command)
         → KeepsSceneIf (leaves_names command) book (step book command) }

@@ -14,7 +14,8 @@ use Rattle.ic_grid.specs.Shape.{is_anchor, is_formula}
 use Rattle.ic_grid.specs.Spill.{array_written, first_blocking, misfits, spilled}
 use Rattle.ic_grid.specs.Value.{shape_at, valued}
 use Rattle.ic_grid.specs.declared.block.Block.{Block}
-use Rattle.ic_machine.specs.Book.{Book, Grid, Sheet, Stepped, at_sheet, on_grid, unless_refused, with_sheet}
+use Rattle.ic_machine.specs.Action.{Action, ChangesCells, ChangesGrid, perform}
+use Rattle.ic_machine.specs.Book.{Book, Grid, Sheet, Stepped, at_sheet, unless_refused, with_sheet}
 use Rattle.ic_machine.specs.Content.{Content, held}
 use Rattle.ic_machine.specs.Placed.{index_in_pool, pool_with}
 use Rattle.ic_machine.specs.Refusal.{ArrayPart, BadArea, Causes, ClearArray, MergedPart, NoFormulaCell, NotAFormula, SpillBlocked}
@@ -95,9 +96,12 @@ unfoldable pub put_spill_step : Block → List SpillValue → Grid → Stepped G
 put_spill_step b values grid =
     unless_refused (spill_causes grid b (length values)) (with_grid_contents grid (spilled held grid.rows grid.columns b values grid.contents)) []
 
+abbrev pub arrays_action : Arrays → Action
+arrays_action (SetUserArrayFormula sheet block text) = ChangesCells (array_step sheet block text)
+arrays_action (RangeClearContents sheet block) = ChangesGrid sheet (clear_step false block)
+arrays_action (RangeClearAll sheet block) = ChangesGrid sheet (clear_step true block)
+arrays_action (PutFormulaValue sheet place value) = ChangesGrid sheet (put_value_step place value)
+arrays_action (PutSpill sheet block values) = ChangesGrid sheet (put_spill_step block values)
+
 abbrev pub arrays_step : Book → Arrays → Stepped Book
-arrays_step book (SetUserArrayFormula sheet block text) = array_step sheet block text book
-arrays_step book (RangeClearContents sheet block) = on_grid book sheet (clear_step false block)
-arrays_step book (RangeClearAll sheet block) = on_grid book sheet (clear_step true block)
-arrays_step book (PutFormulaValue sheet place value) = on_grid book sheet (put_value_step place value)
-arrays_step book (PutSpill sheet block values) = on_grid book sheet (put_spill_step block values)
+arrays_step book command = perform book (arrays_action command)

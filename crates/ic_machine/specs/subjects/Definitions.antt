@@ -17,6 +17,7 @@ use Rattle.ic_laws.specs.declared.scene.Scene.{Scene}
 use Rattle.ic_laws.specs.declared.tree.Formula.{Formula}
 use Rattle.ic_laws.specs.declared.tree.Formula.TheVariants as formulas
 use Rattle.ic_laws.specs.declared.tree.NameKey.{NameKey}
+use Rattle.ic_machine.specs.Action.{Action, Asks, ChangesLists, perform}
 use Rattle.ic_machine.specs.Book.{Book, Stepped, as_core, core_of, notations_in, scene_in, unless_refused}
 use Rattle.ic_machine.specs.Capture.{captured_sites, has_sites}
 use Rattle.ic_machine.specs.Changed.{changed_by, changed_with, with_definition, without_definition}
@@ -153,10 +154,13 @@ update_name_step update book = unless_refused (update_causes book update) (updat
 unfoldable pub would_capture_step : Update → Book → Stepped Book
 would_capture_step update book = unless_refused (question_causes book update) book (bool_field (captures book update))
 
+abbrev pub definition_action : Definitions → Action
+definition_action (NewDefinedName name scope body) = ChangesLists (new_definition_step name scope body)
+definition_action (DeleteDefinedName name scope) = ChangesLists (delete_definition_step name scope)
+definition_action (UpdateDefinedName update) = ChangesLists (update_name_step update)
+definition_action (WouldCaptureName update) = Asks (would_capture_step update)
+definition_action (IsValidDefinedName name scope body) = Asks (valid_definition_step name scope body)
+definition_action GetDefinedNameList = Asks list_step
+
 abbrev pub definition_step : Book → Definitions → Stepped Book
-definition_step book (NewDefinedName name scope body) = new_definition_step name scope body book
-definition_step book (DeleteDefinedName name scope) = delete_definition_step name scope book
-definition_step book (UpdateDefinedName update) = update_name_step update book
-definition_step book (WouldCaptureName update) = would_capture_step update book
-definition_step book (IsValidDefinedName name scope body) = valid_definition_step name scope body book
-definition_step book GetDefinedNameList = list_step book
+definition_step book command = perform book (definition_action command)

@@ -3,6 +3,7 @@
 use Rattle.std.specs.Prelude.{ℕ, ℤ, List, [], ◌∷◌, Bool, Some, codes}
 use Rattle.std.specs.FinMap as finite
 use Rattle.ic_cells.specs.Layout.{height_of, width_of}
+use Rattle.ic_machine.specs.Action.{Action, Asks, ChangesGrid, perform}
 use Rattle.ic_machine.specs.Book.{Book, Grid, Stepped, on_grid, unless_refused}
 use Rattle.ic_machine.specs.Line.{column_causes, column_of, row_causes, row_of, with_column, with_row}
 use Rattle.ic_machine.specs.Reply.{bool_field, number_field}
@@ -60,12 +61,15 @@ column_hidden_step column grid = unless_refused (column_causes column) grid (boo
 unfoldable pub row_hidden_step : ℤ → Grid → Stepped Grid
 row_hidden_step row grid = unless_refused (row_causes row) grid (bool_field (row_of grid.rows row).hidden)
 
+abbrev pub layout_action : Layout → Action
+layout_action (SetColumnWidth sheet column width) = ChangesGrid sheet (set_width_step column width)
+layout_action (SetRowHeight sheet row height) = ChangesGrid sheet (set_height_step row height)
+layout_action (GetColumnWidth sheet column) = Asks (λ book. on_grid book sheet (get_width_step column))
+layout_action (GetRowHeight sheet row) = Asks (λ book. on_grid book sheet (get_height_step row))
+layout_action (SetColumnHidden sheet column hidden) = ChangesGrid sheet (hide_column_step column hidden)
+layout_action (SetRowHidden sheet row hidden) = ChangesGrid sheet (hide_row_step row hidden)
+layout_action (IsColumnHidden sheet column) = Asks (λ book. on_grid book sheet (column_hidden_step column))
+layout_action (IsRowHidden sheet row) = Asks (λ book. on_grid book sheet (row_hidden_step row))
+
 abbrev pub layout_step : Book → Layout → Stepped Book
-layout_step book (SetColumnWidth sheet column width) = on_grid book sheet (set_width_step column width)
-layout_step book (SetRowHeight sheet row height) = on_grid book sheet (set_height_step row height)
-layout_step book (GetColumnWidth sheet column) = on_grid book sheet (get_width_step column)
-layout_step book (GetRowHeight sheet row) = on_grid book sheet (get_height_step row)
-layout_step book (SetColumnHidden sheet column hidden) = on_grid book sheet (hide_column_step column hidden)
-layout_step book (SetRowHidden sheet row hidden) = on_grid book sheet (hide_row_step row hidden)
-layout_step book (IsColumnHidden sheet column) = on_grid book sheet (column_hidden_step column)
-layout_step book (IsRowHidden sheet row) = on_grid book sheet (row_hidden_step row)
+layout_step book command = perform book (layout_action command)

@@ -7,6 +7,7 @@ use Rattle.ic_laws.specs.CoreStep.{core_step}
 use Rattle.ic_tables.specs.Tables.{lists_zone}
 use Rattle.ic_tables.specs.declared.locale.Locale.{Locale}
 use Rattle.ic_input.specs.Convention.{short_date}
+use Rattle.ic_machine.specs.Action.{Action, Asks, ChangesNotation, ChangesSettings, perform}
 use Rattle.ic_machine.specs.Book.{Book, Stepped, as_core, core_of, notations_in, unless_refused}
 use Rattle.ic_machine.specs.Format.{formatted}
 use Rattle.ic_machine.specs.InForce.{by_notation, in_force}
@@ -92,11 +93,14 @@ settings_fields l =
 unfoldable pub settings_step : Book → Stepped Book
 settings_step book = unless_refused [] book (by_notation [] (λ f. settings_fields f.locale) (in_force book))
 
+abbrev pub notation_action : Notation → Action
+notation_action (SetLocale id) = ChangesNotation (set_locale_step id)
+notation_action (SetLanguage id) = ChangesNotation (set_language_step id)
+notation_action (SetTimezone id) = ChangesSettings (set_timezone_step id)
+notation_action GetLocale = Asks get_locale_step
+notation_action GetLanguage = Asks get_language_step
+notation_action GetTimezone = Asks get_timezone_step
+notation_action GetFmtSettings = Asks settings_step
+
 abbrev pub notation_step : Book → Notation → Stepped Book
-notation_step book (SetLocale id) = set_locale_step id book
-notation_step book (SetLanguage id) = set_language_step id book
-notation_step book (SetTimezone id) = set_timezone_step id book
-notation_step book GetLocale = get_locale_step book
-notation_step book GetLanguage = get_language_step book
-notation_step book GetTimezone = get_timezone_step book
-notation_step book GetFmtSettings = settings_step book
+notation_step book command = perform book (notation_action command)

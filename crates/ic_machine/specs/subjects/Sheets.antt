@@ -13,6 +13,7 @@ use Rattle.ic_laws.specs.declared.scene.Scene.{Scene}
 use Rattle.ic_laws.specs.declared.tree.Formula.{Formula}
 use Rattle.ic_laws.specs.declared.tree.Formula.TheVariants as formulas
 use Rattle.ic_cells.specs.Sheet.{state_word}
+use Rattle.ic_machine.specs.Action.{Action, Asks, ChangesLists, perform}
 use Rattle.ic_machine.specs.Book.{Book, Sheet, Stepped, as_core, core_of, empty_sheet, found_or, notations_in, scene_in, unless_refused}
 use Rattle.ic_machine.specs.Changed.{changed_by, with_moved_sheet, with_removed_sheet, with_renamed_sheet}
 use Rattle.ic_machine.specs.Refusal.{Causes, IdLive, IdsUsedUp, InvalidSheet, InvalidSheetName, OutOfRange, SheetExists}
@@ -225,16 +226,19 @@ property_fields sheet = TextField sheet.name ∷ TextField (state_word sheet.tab
 unfoldable pub properties_step : Book → Stepped Book
 properties_step book = unless_refused [] book (flat_map property_fields book.sheets)
 
+abbrev pub sheet_action : Sheets → Action
+sheet_action (AddSheet name) = ChangesLists (add_sheet_step name)
+sheet_action (InsertSheet name index id) = ChangesLists (insert_sheet_step name index id)
+sheet_action NewSheet = ChangesLists new_sheet_step
+sheet_action (DuplicateSheet sheet) = ChangesLists (duplicate_sheet_step sheet)
+sheet_action (RenameSheet old new) = ChangesLists (rename_sheet_step old new)
+sheet_action (RenameSheetByIndex sheet name) = ChangesLists (rename_by_index_step sheet name)
+sheet_action (MoveSheet sheet to) = ChangesLists (move_sheet_step sheet to)
+sheet_action (DeleteSheet sheet) = ChangesLists (delete_sheet_step sheet)
+sheet_action (DeleteSheetByName name) = ChangesLists (delete_by_name_step name)
+sheet_action (DeleteSheetBySheetId id) = ChangesLists (delete_by_id_step id)
+sheet_action GetNewSheetId = Asks new_sheet_id_step
+sheet_action GetWorksheetsProperties = Asks properties_step
+
 abbrev pub sheet_step : Book → Sheets → Stepped Book
-sheet_step book (AddSheet name) = add_sheet_step name book
-sheet_step book (InsertSheet name index id) = insert_sheet_step name index id book
-sheet_step book NewSheet = new_sheet_step book
-sheet_step book (DuplicateSheet sheet) = duplicate_sheet_step sheet book
-sheet_step book (RenameSheet old new) = rename_sheet_step old new book
-sheet_step book (RenameSheetByIndex sheet name) = rename_by_index_step sheet name book
-sheet_step book (MoveSheet sheet to) = move_sheet_step sheet to book
-sheet_step book (DeleteSheet sheet) = delete_sheet_step sheet book
-sheet_step book (DeleteSheetByName name) = delete_by_name_step name book
-sheet_step book (DeleteSheetBySheetId id) = delete_by_id_step id book
-sheet_step book GetNewSheetId = new_sheet_id_step book
-sheet_step book GetWorksheetsProperties = properties_step book
+sheet_step book command = perform book (sheet_action command)

@@ -8,7 +8,8 @@ use Rattle.ic_cells.specs.declared.layout.ColumnProps.{ColumnProps}
 use Rattle.ic_cells.specs.declared.layout.RowProps.{RowProps}
 use Rattle.ic_cells.specs.declared.style.Color.{Color}
 use Rattle.ic_cells.specs.declared.style.Style.{Style}
-use Rattle.ic_machine.specs.Book.{Book, Grid, Sheet, Stepped, at_sheet, content_at, on_grid, style_number_at, unless_refused, with_sheet}
+use Rattle.ic_machine.specs.Action.{Action, Asks, ChangesCells, ChangesGrid, perform}
+use Rattle.ic_machine.specs.Book.{Book, Grid, Sheet, Stepped, at_sheet, content_at, style_number_at, unless_refused, with_sheet}
 use Rattle.ic_machine.specs.Content.{style_of}
 use Rattle.ic_machine.specs.Line.{column_causes, column_of, from_column, from_row, row_causes, row_of, with_column, with_row}
 use Rattle.ic_machine.specs.Refusal.{Causes}
@@ -104,13 +105,16 @@ unfoldable pub delete_row_step : ℤ → Grid → Stepped Grid
 delete_row_step row grid =
     unless_refused (row_causes row) (record grid { rows = from_row (finite.get grid.rows row) row without_row_style grid.rows }) []
 
+abbrev pub style_action : Styles → Action
+style_action (GetCellStyleIndex sheet row column) = Asks (style_index_step sheet (row, column))
+style_action (GetStyleForCell sheet row column) = Asks (cell_style_step sheet (row, column))
+style_action (GetCellStyleOrNone sheet row column) = Asks (own_style_step sheet (row, column))
+style_action (SetColumnStyle sheet column style) = ChangesCells (set_column_step sheet column style)
+style_action (SetRowStyle sheet row style) = ChangesCells (set_row_step sheet row style)
+style_action (GetColumnStyle sheet column) = Asks (column_style_step sheet column)
+style_action (GetRowStyle sheet row) = Asks (row_style_step sheet row)
+style_action (DeleteColumnStyle sheet column) = ChangesGrid sheet (delete_column_step column)
+style_action (DeleteRowStyle sheet row) = ChangesGrid sheet (delete_row_step row)
+
 abbrev pub style_step : Book → Styles → Stepped Book
-style_step book (GetCellStyleIndex sheet row column) = style_index_step sheet (row, column) book
-style_step book (GetStyleForCell sheet row column) = cell_style_step sheet (row, column) book
-style_step book (GetCellStyleOrNone sheet row column) = own_style_step sheet (row, column) book
-style_step book (SetColumnStyle sheet column style) = set_column_step sheet column style book
-style_step book (SetRowStyle sheet row style) = set_row_step sheet row style book
-style_step book (GetColumnStyle sheet column) = column_style_step sheet column book
-style_step book (GetRowStyle sheet row) = row_style_step sheet row book
-style_step book (DeleteColumnStyle sheet column) = on_grid book sheet (delete_column_step column)
-style_step book (DeleteRowStyle sheet row) = on_grid book sheet (delete_row_step row)
+style_step book command = perform book (style_action command)

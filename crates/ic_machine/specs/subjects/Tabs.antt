@@ -3,6 +3,7 @@ use Rattle.std.specs.Prelude.{ℕ, ℤ, pos, List, [], ◌∷◌, Bool, int_le, 
 use Rattle.ic_laws.specs.declared.reference.TheConstants.{LAST_COLUMN, LAST_ROW}
 use Rattle.ic_cells.specs.declared.sheet.SheetState.{SheetState}
 use Rattle.ic_cells.specs.declared.style.Color.{Color}
+use Rattle.ic_machine.specs.Action.{Action, Asks, ChangesSettings, ChangesTab, perform}
 use Rattle.ic_machine.specs.Book.{Book, Stepped, Tab, on_tab, unless_refused}
 use Rattle.ic_machine.specs.Refusal.{FrozenNegative, TooManyColumns, TooManyRows}
 use Rattle.ic_machine.specs.Reply.{position_field, text_field}
@@ -64,13 +65,16 @@ state_step state tab = unless_refused [] (record tab { state = state }) []
 unfoldable pub grid_lines_step : Bool → Tab → Stepped Tab
 grid_lines_step shows tab = unless_refused [] (record tab { shows_grid_lines = shows }) []
 
+abbrev pub tab_action : Tabs → Action
+tab_action (SetTheme name) = ChangesSettings (set_theme_step name)
+tab_action GetTheme = Asks get_theme_step
+tab_action (SetFrozenRows sheet count) = ChangesTab sheet (freeze_rows_step count)
+tab_action (SetFrozenColumns sheet count) = ChangesTab sheet (freeze_columns_step count)
+tab_action (GetFrozenRowsCount sheet) = Asks (λ book. on_tab book sheet frozen_rows_step)
+tab_action (GetFrozenColumnsCount sheet) = Asks (λ book. on_tab book sheet frozen_columns_step)
+tab_action (SetSheetColor sheet color) = ChangesTab sheet (color_step color)
+tab_action (SetSheetState sheet state) = ChangesTab sheet (state_step state)
+tab_action (SetShowGridLines sheet shows) = ChangesTab sheet (grid_lines_step shows)
+
 abbrev pub tab_step : Book → Tabs → Stepped Book
-tab_step book (SetTheme name) = set_theme_step name book
-tab_step book GetTheme = get_theme_step book
-tab_step book (SetFrozenRows sheet count) = on_tab book sheet (freeze_rows_step count)
-tab_step book (SetFrozenColumns sheet count) = on_tab book sheet (freeze_columns_step count)
-tab_step book (GetFrozenRowsCount sheet) = on_tab book sheet frozen_rows_step
-tab_step book (GetFrozenColumnsCount sheet) = on_tab book sheet frozen_columns_step
-tab_step book (SetSheetColor sheet color) = on_tab book sheet (color_step color)
-tab_step book (SetSheetState sheet state) = on_tab book sheet (state_step state)
-tab_step book (SetShowGridLines sheet shows) = on_tab book sheet (grid_lines_step shows)
+tab_step book command = perform book (tab_action command)
