@@ -1,4 +1,4 @@
-//! Definitions come and go, and are listed.
+//! What becomes of formulas and bodies where definitions come, get other names and bodies, and go.
 
 pub mod parts;
 pub mod remaking;

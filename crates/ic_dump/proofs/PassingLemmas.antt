@@ -15,9 +15,9 @@ use Rattle.std.specs.Fmt.{decimal, digit_glyph, digits, digits_onto}
 use Rattle.std.specs.List.{list_all, list_any, range_with_len}
 use Rattle.ic_laws.proofs.FoldLaws.{fold-fixed, is_fixed}
 use Rattle.ic_laws.specs.Name.{agrees, fold}
+use Rattle.ic_tables.specs.Words.{FindsFoldings}
 use Rattle.ic_sheets.proofs.IndexLemmas.{bytes_eq-flip, same_encoded}
 use Rattle.ic_dump.specs.Passing.{is_free}
-use Rattle.ic_dump.specs.Records.{FindsNames}
 
 module _ (taken : List (List ℕ)) where
   -- the numerals that are free among so many, from a number on
@@ -82,7 +82,7 @@ abbrev Folded : Type 0
 Folded = BTreeSet (String Global)
 
 -- a numeral is in it exactly where it agrees with a name
-pub tested : (folded : Folded) (taken : List (List ℕ)) (bytes : List ℕ) (n : ℕ) → FindsNames folded taken → IsUtf8 bytes → chars bytes ≡ decimal n → contains_text folded bytes ≡ list_any (agrees (decimal n)) taken
+pub tested : (folded : Folded) (taken : List (List ℕ)) (bytes : List ℕ) (n : ℕ) → FindsFoldings folded taken → IsUtf8 bytes → chars bytes ≡ decimal n → contains_text folded bytes ≡ list_any (agrees (decimal n)) taken
 tested folded taken bytes n finds utf8 is =
     ap (contains_text folded) (sym (encodes-chars bytes utf8) ∙ ap encode_utf8_all (is ∙ sym (fold-decimal n))) ∙ finds (decimal n)
 
@@ -102,7 +102,7 @@ same_choice false false true e = refl
 same_choice false false false e = refl
 
 -- one more name
-pub one_folded : (before after : Folded) (taken : List (List ℕ)) (name bytes : List ℕ) → FindsNames before taken → bytes ≡ encode_utf8_all (fold name) → sorted.UpdatesBy string_cmp (λ k. slice_cmp nat_cmp bytes (string_bytes k)) before after true → FindsNames after (taken ++ name ∷ [])
+pub one_folded : (before after : Folded) (taken : List (List ℕ)) (name bytes : List ℕ) → FindsFoldings before taken → bytes ≡ encode_utf8_all (fold name) → sorted.UpdatesBy string_cmp (λ k. slice_cmp nat_cmp bytes (string_bytes k)) before after true → FindsFoldings after (taken ++ name ∷ [])
 one_folded before after taken name bytes finds is updates = λ other.
     let key = encode_utf8_all (fold other) in
     btree_set_updates_text bytes before after true updates key

@@ -1,13 +1,11 @@
 -- How the records of a book tell what its lines are made of, and what finds sheets and names.
-use Rattle.std.specs.Prelude.{◌≡◌, ◌++◌, ℕ, List, String, encode_utf8_all, map, nat_eq, position}
+use Rattle.std.specs.Prelude.{◌≡◌, ◌++◌, ℕ, List, map, nat_eq, position}
 use Rattle.std.specs.BTreeMap.{BTreeMap, get}
-use Rattle.std.specs.BTreeSet.{BTreeSet, contains, contains_text}
+use Rattle.std.specs.BTreeSet.{BTreeSet, contains}
 use Rattle.std.specs.List.{list_any}
 use Rattle.std.specs.Ordering.{nat_cmp}
-use Rattle.std.specs.declared.alloc.Global.{Global}
 use Rattle.ic_cells.specs.declared.workbook.DefinedName.{DefinedName}
 use Rattle.ic_laws.specs.CoreBook.{Sheet}
-use Rattle.ic_laws.specs.Name.{agrees, fold}
 use Rattle.ic_laws.specs.declared.scene.NameSpelling.{NameSpelling}
 use Rattle.ic_laws.specs.declared.scene.SheetName.{SheetName}
 use Rattle.ic_parts.specs.Lent.{placed}
@@ -29,10 +27,6 @@ AreFound indexes sheets = (id : ℕ) → get nat_cmp indexes id ≡ position (λ
 -- a set has these ids
 abbrev pub FindsIds : BTreeSet ℕ → List ℕ → Type 0
 FindsIds seen ids = (id : ℕ) → contains nat_cmp seen id ≡ list_any (nat_eq id) ids
-
--- a set has the foldings of these names
-abbrev pub FindsNames : BTreeSet (String Global) → List (List ℕ) → Type 0
-FindsNames folded names = (name : List ℕ) → contains_text folded (encode_utf8_all (fold name)) ≡ list_any (agrees name) names
 
 -- the others among some ids have been listed, each once, and all that were looked at are seen
 pub record AreOthers (seen : BTreeSet ℕ) (ids own past : List ℕ) : Type 0 where

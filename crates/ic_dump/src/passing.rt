@@ -1,8 +1,8 @@
 //! Names that nothing in a book means.
 ghost use Rattle.std.specs.Prelude.{◌≡◌, ◌<◌, ◌+◌, ◌^◌, ◌++◌, [], ◌∷◌, List, ℕ, IfOk, OnOk, cond, length, map};
 ghost use Rattle.std.specs.Fmt.{decimal};
+ghost use Rattle.ic_tables.specs.Words.{FindsFoldings};
 ghost use Rattle.ic_dump.specs.Passing.{free_numerals, is_free};
-ghost use Rattle.ic_dump.specs.Records.{FindsNames};
 
 use crate::lines::digits_of;
 use caseless::default_case_fold_str;
@@ -42,7 +42,7 @@ fn push_if_free(
     folded: &BTreeSet<String>,
     number: u64,
 ) -> Result<(), OutOfMemory>
-    ensures { (taken : List (List ℕ)) → FindsNames folded.now taken → OnOk result
+    ensures { (taken : List (List ℕ)) → FindsFoldings folded.now taken → OnOk result
         (names.new.items ≡ names.old.items
         ++ cond (is_free taken (decimal number)) (decimal number ∷ []) []) }
 {
@@ -55,7 +55,7 @@ fn push_if_free(
 
 /// The names, folded.
 fn folded_names(alloc: Global, names: &[&Text]) -> Result<BTreeSet<String>, OutOfMemory>
-    ensures { IfOk result (λ folded. FindsNames folded (map (λ t. t.now) names.now)) }
+    ensures { IfOk result (λ folded. FindsFoldings folded (map (λ t. t.now) names.now)) }
 {
     let mut folded = BTreeSet::new(alloc);
     for name in names {
@@ -66,8 +66,8 @@ fn folded_names(alloc: Global, names: &[&Text]) -> Result<BTreeSet<String>, OutO
 
 /// Puts a name in, folded.
 fn put_folded(alloc: Global, folded: &mut BTreeSet<String>, name: &Text) -> Result<(), OutOfMemory>
-    ensures { (taken : List (List ℕ)) → FindsNames folded.old taken → OnOk result
-        (FindsNames folded.new (taken ++ name.now ∷ [])) }
+    ensures { (taken : List (List ℕ)) → FindsFoldings folded.old taken → OnOk result
+        (FindsFoldings folded.new (taken ++ name.now ∷ [])) }
 {
     let text = default_case_fold_str(alloc, name.as_str())?;
     folded.insert(text)?;

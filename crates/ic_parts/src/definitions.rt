@@ -1,3 +1,3 @@
-//! Definitions come and go, and are listed.
+//! The bodies of definitions: read, spelled and shown.
 
 pub mod body;

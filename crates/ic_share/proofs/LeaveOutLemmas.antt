@@ -41,21 +41,7 @@ module _ (b : Book) (language : List ℕ) where
   unfolding set_language_step
   quiet_stays None e = refl
   quiet_stays (Some (OnNotation (notation.SetLanguage id))) e = chosen id _
-  quiet_stays (Some (OnNotation (notation.SetLocale id))) e = by_reader (OnNotation (notation.SetLocale id)) e
-  quiet_stays (Some (OnNotation (notation.SetTimezone id))) e = by_reader (OnNotation (notation.SetTimezone id)) e
-  quiet_stays (Some (OnNotation notation.GetLocale)) e = by_reader (OnNotation notation.GetLocale) e
-  quiet_stays (Some (OnNotation notation.GetLanguage)) e = by_reader (OnNotation notation.GetLanguage) e
-  quiet_stays (Some (OnNotation notation.GetTimezone)) e = by_reader (OnNotation notation.GetTimezone) e
-  quiet_stays (Some (OnNotation notation.GetFmtSettings)) e = by_reader (OnNotation notation.GetFmtSettings) e
-  quiet_stays (Some (OnSheets command)) e = by_reader (OnSheets command) e
-  quiet_stays (Some (OnDefinitions command)) e = by_reader (OnDefinitions command) e
-  quiet_stays (Some (OnWriting command)) e = by_reader (OnWriting command) e
-  quiet_stays (Some (OnReading command)) e = by_reader (OnReading command) e
-  quiet_stays (Some (OnExtending command)) e = by_reader (OnExtending command) e
-  quiet_stays (Some (OnStyles command)) e = by_reader (OnStyles command) e
-  quiet_stays (Some (OnLayout command)) e = by_reader (OnLayout command) e
-  quiet_stays (Some (OnTabs command)) e = by_reader (OnTabs command) e
-  quiet_stays (Some (OnArrays command)) e = by_reader (OnArrays command) e
+  quiet_stays (Some command) e = by_reader command e
 
 -- users are told apart by their texts
 equal_order : (o : Ordering) → is_eq o ≡ true → o ≡ Equal
