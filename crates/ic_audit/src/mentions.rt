@@ -38,8 +38,8 @@ pub fn mentions_of_sheet(
     }
 }
 
-/// The same of the definition of an agreeing name that is local to the sheet at an index, from 0, or to none: it is mentioned by
-/// the words that mean it. One for all sheets isn't found by an index.
+/// The sites that mention the definition of an agreeing name that is local to the sheet at an index, from 0, or to none, by words
+/// that mean it, in the same order. One for all sheets isn't found by an index.
 ///
 /// `NoSuchName` exactly where no sheet stands at the index, or there is no such definition; `OutOfMemory` only where neither
 /// holds.

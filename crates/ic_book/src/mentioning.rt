@@ -32,8 +32,8 @@ impl<'a> Model<'a> {
         Ok(self.sites_where(&Sought::Sheet(id))?)
     }
 
-    /// The same of the definition of an agreeing name that is local to the sheet at an index, from 0, or to none: it is
-    /// mentioned by the words that mean it. One for all sheets isn't found by an index.
+    /// The cells and the definitions that mention the definition of an agreeing name that is local to the sheet at an index,
+    /// from 0, or to none, by words that mean it, in the same order. One for all sheets isn't found by an index.
     ///
     /// `InvalidScope` exactly where no sheet stands at the index, then `NameNotFound` where there is no such definition;
     /// `OutOfMemory` only where neither holds.

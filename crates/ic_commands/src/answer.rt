@@ -49,8 +49,8 @@ pub fn reply_to(alloc: Global, model: &mut Model<'_>, line: &Line) -> Result<Str
     reply_in(alloc, model, line, String::new(alloc))
 }
 
-/// The same, with the reply in the memory of a text that is needed no more: it takes none where that has room for one
-/// without a field.
+/// One step of the machine, as `reply_to`, with the reply in the memory of a text that is needed no more: it takes none where
+/// that has room for one without a field.
 pub fn reply_in(
     alloc: Global,
     model: &mut Model<'_>,
@@ -64,7 +64,7 @@ pub fn reply_in(
     reply_to_text(alloc, model, line.text().as_str(), last)
 }
 
-/// The same for a line by its characters. One with a line feed in it is answered as any other.
+/// One step of the machine, as `reply_in`, for a line by its characters. One with a line feed in it is answered as any other.
 pub fn reply_to_text(
     alloc: Global,
     model: &mut Model<'_>,
@@ -93,7 +93,7 @@ fn emptied(mut text: String) -> Result<String, OutOfMemory>
     Ok(text)
 }
 
-/// The same, with the reply as a line: without the line feed at its end.
+/// One step of the machine, as `reply_to`, with the reply as a line: without the line feed at its end.
 pub fn answer_line(alloc: Global, model: &mut Model<'_>, line: &Line) -> Result<Line, OutOfMemory>
     ensures told { IfOk result
         (λ reply. reply ≡ reply_text (line_step commands (whole_of model.old.book) line.now).1) }

@@ -21,7 +21,7 @@ pub fn captured(tree: &Bound, kept: &Bound, change: &KeyChange) -> bool
     is_captured_beside(tree, kept, change)
 }
 
-/// The same of what is kept of a formula, before and after; a text that doesn't read has no words.
+/// Whether the update captures some word of what is kept of a formula, before and after; a text that doesn't read has no words.
 pub fn captured_formula(before: &Formula, after: &Formula, change: &KeyChange) -> bool
     requires { AreAlikeFormulas before.now after.now }
     ensures { result ≡ captured_formula (change_of (Some change.now)) before.now after.now }

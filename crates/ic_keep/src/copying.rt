@@ -60,7 +60,7 @@ pub fn keep_copy<A: Finder>(
     bind(alloc, after, english, scope, &written)
 }
 
-/// The same of what is kept of a formula. A text that doesn't read is copied as it is.
+/// What is kept of a formula of a sheet that is copied, as the copy has it. A text that doesn't read is copied as it is.
 pub fn keep_copy_formula<A: Finder>(
     alloc: Global,
     after: &A,

@@ -64,7 +64,7 @@ pub fn keep<B: Finder, A: Finder>(
     bind(alloc, after, english, scope, &written)
 }
 
-/// The same of what is kept of a formula. A text that doesn't read stays as it is.
+/// What is kept of a formula, over a change of its book. A text that doesn't read stays as it is.
 pub fn keep_formula<B: Finder, A: Finder>(
     alloc: Global,
     before: &B,

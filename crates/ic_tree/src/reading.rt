@@ -42,7 +42,8 @@ fn read_spelled<D: Dialect>(
     }
 }
 
-/// The same, as a formula in which each sheet and each word dangles as it was typed: what `settle` binds.
+/// The formula that a text is in a dialect, in which each sheet and each word dangles as it was typed: what `settle` binds. None
+/// where no formula has this text.
 pub fn read_typed<D: Dialect>(
     alloc: Global,
     d: &D,
