@@ -16,11 +16,11 @@ import shapes
 FEW = {"cells": 100, "formulas": 100, "sheets": 6, "definitions": 10}
 SIZES = (1_000, 10_000, 100_000)
 STYLE = "#,##0.00→0→1→-"
-ROUNDS, MOST, LEAST = 9, 200, 20
+LINES, ROUNDS = 100, 15
 
 # A use has phases, parted by bars: a phase is a line, or lines in turn, for i from 1 on. What stands before a colon and a blank is
 # its name, else the command is. A phase with a dash before it isn't counted; one with "once" is sent for the first i alone.
-# `n` goes on from round to round, `k` is the number of lines; `row`, `formula`, `sheet` and `name` are one of the book's each.
+# `n` goes on from round to round, `k` is the number of lines; `row`, `formula`, `sheet` and `name` are the book's one after another.
 USES = [
     "add_sheet→T{i} | delete_sheet_by_name→T{i}",
     "new_sheet | delete_sheet→{sheets}",
@@ -99,7 +99,7 @@ A_SHEET = {"move_sheet", "insert_sheet", "duplicate_sheet", "duplicate_sheet amo
 NANOSECONDS = 5
 # The rows of the first table that are uses in books with many of one thing.
 SHOWN = {
-    "sheets": ["new_sheet", "insert_sheet", "move_sheet", "duplicate_sheet", "delete_sheet", "delete_sheet of the first", "delete_sheet_by_name", "delete_sheet_by_sheet_id", "add_sheet and its deletion", "delete_defined_name", "update_defined_name", "would_capture"],
+    "sheets": ["new_sheet", "insert_sheet", "insert_sheet at the end", "move_sheet", "duplicate_sheet", "delete_sheet", "delete_sheet of the first", "delete_sheet_by_name", "delete_sheet_by_sheet_id", "add_sheet and its deletion", "delete_defined_name", "update_defined_name", "would_capture"],
     "definitions": ["new_defined_name", "new_defined_name of one sheet", "delete_defined_name", "delete_defined_name of the first", "update_defined_name", "would_capture", "delete_sheet", "duplicate_sheet"],
     "cells": ["range_clear_contents of a column without cells", "range_clear_all of a column without cells"],
     "formulas": ["update_cell_with_formula over another"],
@@ -166,9 +166,9 @@ def book(cells, formulas, sheets, definitions):
 
 def words(sizes, i, n, k):
     """What the lines of a use may say."""
-    at = n * 7919
+    at = n - 1
     return {
-        **sizes, "i": i, "n": n, "k": k, "last": sizes["sheets"] - 1, "far": 3_000_000 + i, "first": (n - 1) % sizes["definitions"] + 1,
+        **sizes, "i": i, "n": n, "k": k, "last": sizes["sheets"] - 1, "far": 3_000_000 + i, "first": at % sizes["definitions"] + 1,
         "row": at % sizes["cells"] + 1, "formula": at % sizes["formulas"] + 1, "sheet": at % sizes["sheets"], "name": f"Sheet{at % (sizes['sheets'] - 5) + 1}",
     }
 
@@ -183,22 +183,18 @@ def phases(use):
 
 
 def timed(program, use, sizes):
-    """The microseconds of each counted phase of a use, a line: the least of some rounds."""
-    least, n, k, left = {}, 0, LEAST, None
-    while left != 0:
+    """The microseconds of each counted phase of a use, a line: the least of some rounds, of two where a round is long."""
+    least, k = {}, min(LINES, max(sizes.values()) // 10)
+    for turn in range(ROUNDS):
         total = 0
         for name, once, forms in phases(use):
-            lines = [form.format(**words(sizes, i, n + i, k)) for i in range(1, 2 if once else k + 1) for form in forms]
+            lines = [form.format(**words(sizes, i, turn * k + i, k)) for i in range(1, 2 if once else k + 1) for form in forms]
             took = program.spent(lines)
             total += took
-            if name and left is not None:
+            if name:
                 least[name] = min(took / len(lines), least.get(name, took))
-        n += k
-        if left is None:
-            k = max(LEAST, min(MOST, int(k * 5_000 / total)))
-            left = ROUNDS if k == MOST else 3
-        else:
-            left -= 1
+        if turn and total > 50_000:
+            break
     return least
 
 
@@ -238,7 +234,7 @@ def by_parts(path, before, uses, size, parts=None, rounds=3):
 
 def of_many(path, size):
     """What one line takes that touches so many mentions, cells or values, by each of these."""
-    tax = [*shapes.sheets_named("Data"), "new_defined_name→tax→-→Data!$A$1", *(shapes.put(i, f"tax*{i}") for i in range(1, size + 1))]
+    tax = [*shapes.sheets_named("Data"), "new_defined_name→tax→-→Data!$A$1", *(shapes.put(i, f"SUM(Data!$A${i}:$B$9)*tax+{i}") for i in range(1, size + 1))]
     update = "update_defined_name→{}→-→{}→-→Data!$A$1"
     yield from by_parts(path, tax, [
         ("update_defined_name, a mention", [update.format("tax", "toll"), update.format("toll", "tax")]),
@@ -262,8 +258,8 @@ def of_many(path, size):
 
 def written_over(path, size):
     """The bytes that the program holds for each formula that was written over by another one, and for each that came twice."""
-    lines = [f"update_cell_with_formula→0→{i % 100 + 1}→1→=SUM($B${i}:$C$9)*2.5" for i in range(1, size + 1)]
-    program = Program(path, lines[:1])
+    lines = [f"update_cell_with_formula→0→{i % 100 + 1}→1→={it}" for i, it in enumerate(shapes.formulas(size))]
+    program = Program(path, [*shapes.sheets_named("Data", "Budget", "Next", "My data"), *lines[:100]])
     start = program.kilobytes()
     for name in ("a formula written over, bytes", "the same that comes again, bytes"):
         program.spent(lines)
@@ -299,7 +295,7 @@ def wanted(name, many, sizes, took):
     if name in AT_MOST:
         return f"{AT_MOST[name]:,}", max(took) > AT_MOST[name]
     twice = took[-1] > 2 * took[0]
-    if many in ("sheets", None) and name in A_SHEET:
+    if many in ("sheets", "") and name in A_SHEET:
         return f"{NANOSECONDS} ns a sheet", twice and took[-1] * 1000 > NANOSECONDS * sizes[-1]
     return "2.0 times", twice
 
@@ -320,21 +316,26 @@ def tables(path, sizes, head, row):
     if left_out:
         sys.exit(f"bench: no use counts {', '.join(sorted(left_out))}")
     found = in_books(path, sizes)
-    rows = [(name, f"of {many}", found[name, many], wanted(name, many, sizes, found[name, many])) for many, names in SHOWN.items() for name in names]
+    rows = [(name, many, found[name, many]) for many, names in SHOWN.items() for name in names]
     of_parts = {}
     for size in sizes:
         for name, took in (*of_many(path, size), *written_over(path, size), *far_apart(path, size)):
             of_parts.setdefault(name, []).append(took)
-    rows += [(name, "", took, wanted(name, None, sizes, took)) for name, took in of_parts.items()]
-    head("us a line", "in books", *(f"{it:,}" for it in sizes), "times", "wanted at most", "over")
-    for name, where, took, (most, over) in rows:
-        row(quoted(name), where, *map(told, took), f"{took[-1] / took[0]:.1f}", most, "over" if over else "")
+    rows += [(name, "", took) for name, took in of_parts.items()]
+    exceeding = {}
+    head("us a line", "many", *(f"{it:,}" for it in sizes), "times", "wanted at most", "over")
+    for name, many, took in rows:
+        most, over = wanted(name, many, sizes, took)
+        row(quoted(name), many, *map(told, took), f"{took[-1] / took[0]:.1f}", most, "over" if over else "")
+        if over:
+            exceeding.setdefault(name, []).append(many)
     print()
     head("us a line, in books of " + ", ".join(f"{it:,}" for it in sizes), *FEW, "over")
-    exceeding = [f"{quoted(name)} {where}".strip() for name, where, _, (_, over) in rows if over]
     for name in dict.fromkeys(it for it, _ in found):
         over = [many for many in FEW if (name, many) in found and wanted(name, many, sizes, found[name, many])[1]]
         cells = ("; ".join(map(told, found.get((name, many), []))) + (f" a {many[:-1]}" if (name, many) in LISTS else "") for many in FEW)
         row(quoted(name), *cells, ", ".join(over))
-        exceeding += [f"{quoted(name)} of {many}" for many in over if name not in SHOWN[many]]
-    print(f"\nOver what is wanted: {'; '.join(exceeding) or 'nothing'}\n")
+        if over:
+            exceeding[name] = over
+    names = (quoted(name) + (f" ({', '.join(many)})" if many[0] else "") for name, many in exceeding.items())
+    print(f"\nOver what is wanted: {'; '.join(names) or 'nothing'}\n")
