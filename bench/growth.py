@@ -95,15 +95,39 @@ MORE = {
 # What is wanted where it isn't twice the time: a list grows with its reply, so that each thing in it counts; what changes the order
 # of sheets may take so many microseconds a sheet.
 LISTS = {("get_all_cells", "cells"), ("get_all_cells", "formulas"), ("get_worksheets_properties", "sheets"), ("get_defined_name_list", "definitions")}
-A_SHEET = {"move_sheet", "insert_sheet", "duplicate_sheet", "duplicate_sheet among its numbered copies", "delete_sheet of the first"}
+A_SHEET = {"move_sheet", "insert_sheet", "duplicate_sheet", "duplicate_sheet among its copies", "delete_sheet of the first"}
 NANOSECONDS = 5
-# The rows of the first table that are uses in books with many of one thing.
-SHOWN = {
-    "sheets": ["new_sheet", "insert_sheet", "insert_sheet at the end", "move_sheet", "duplicate_sheet", "delete_sheet", "delete_sheet of the first", "delete_sheet_by_name", "delete_sheet_by_sheet_id", "add_sheet and its deletion", "delete_defined_name", "update_defined_name", "would_capture"],
-    "definitions": ["new_defined_name", "new_defined_name of one sheet", "delete_defined_name", "delete_defined_name of the first", "update_defined_name", "would_capture", "delete_sheet", "duplicate_sheet"],
-    "cells": ["range_clear_contents of a column without cells", "range_clear_all of a column without cells"],
-    "formulas": ["update_cell_with_formula over another"],
-}
+# What is wanted at most of a part: microseconds, or bytes.
+AT_MOST = {"update_defined_name a mention": 2.0, "would_capture a mention": 0.8, "get_sheet_markup a megabyte": 1_000, "written over": 250, "coming again": 250}
+# The rows of the first table: what each says, what its books have many of, and the names of its uses.
+ROWS = [
+    ("`delete_sheet` of the last; by name; by id", "sheets", ["delete_sheet", "delete_sheet_by_name", "delete_sheet_by_sheet_id"]),
+    ("`delete_sheet` of the first", "sheets", ["delete_sheet of the first"]),
+    ("`delete_defined_name`", "sheets", ["delete_defined_name"]),
+    ("`update_defined_name` that nothing mentions; `would_capture`", "sheets", ["update_defined_name", "would_capture"]),
+    ("`new_sheet` behind `Sheet1`, `Sheet2` ..", "sheets", ["new_sheet"]),
+    ("`insert_sheet` at the front; `move_sheet`", "sheets", ["insert_sheet", "move_sheet"]),
+    ("`insert_sheet` at the end", "sheets", ["insert_sheet at the end"]),
+    ("`duplicate_sheet` of an empty sheet", "sheets", ["duplicate_sheet"]),
+    ("among its numbered copies", "copies", ["duplicate_sheet among its copies"]),
+    ("`get_all_cells` of 213 cells", "sheets", ["get_all_cells"]),
+    ("`new_defined_name`", "definitions", ["new_defined_name"]),
+    ("`new_defined_name` of one sheet", "definitions", ["new_defined_name of one sheet"]),
+    ("`delete_defined_name` of the last; of the first", "definitions", ["delete_defined_name", "delete_defined_name of the first"]),
+    ("`update_defined_name` that nothing mentions; `would_capture`", "definitions", ["update_defined_name", "would_capture"]),
+    ("`delete_sheet`; `duplicate_sheet` of an empty sheet", "definitions", ["delete_sheet", "duplicate_sheet"]),
+    ("a mention in `update_defined_name`", "mentions", ["update_defined_name a mention"]),
+    ("a mention in `would_capture`", "mentions", ["would_capture a mention"]),
+    ("`range_clear_contents`; `range_clear_all` of a column without cells", "cells", [f"{it} of a column without cells" for it in ("range_clear_contents", "range_clear_all")]),
+    ("a cell of a block in them", "cells", ["range_clear_contents a cell", "range_clear_all a cell"]),
+    ("a cell of an array formula written; cleared", "cells", ["set_user_array_formula a cell", "range_clear_contents a cell of its array"]),
+    ("a cell of `get_all_cells`; of `get_sheet_markup`", "cells", ["get_all_cells", "get_sheet_markup a cell"]),
+    ("a megabyte of the markup of two cells far apart", "rows", ["get_sheet_markup a megabyte"]),
+    ("a sheet of `get_worksheets_properties`", "sheets", ["get_worksheets_properties"]),
+    ("a definition of `get_defined_name_list`", "definitions", ["get_defined_name_list"]),
+    ("a formula written over another", "formulas", ["update_cell_with_formula over another"]),
+    ("bytes that one written over leaves; that comes again", "formulas", ["written over", "coming again"]),
+]
 
 
 class Program:
@@ -237,23 +261,23 @@ def of_many(path, size):
     tax = [*shapes.sheets_named("Data"), "new_defined_name→tax→-→Data!$A$1", *(shapes.put(i, f"SUM(Data!$A${i}:$B$9)*tax+{i}") for i in range(1, size + 1))]
     update = "update_defined_name→{}→-→{}→-→Data!$A$1"
     yield from by_parts(path, tax, [
-        ("update_defined_name, a mention", [update.format("tax", "toll"), update.format("toll", "tax")]),
-        ("would_capture, a mention", [update.format("tax", "toll").replace("update_defined_name", "would_capture")]),
+        ("update_defined_name a mention", [update.format("tax", "toll"), update.format("toll", "tax")]),
+        ("would_capture a mention", [update.format("tax", "toll").replace("update_defined_name", "would_capture")]),
     ], size).items()
     full = [f"set_user_input→0→{i // 10 + 1}→{i % 10 + 1}→{i}" for i in range(size)]
     block = f"→0→1→1→10→{size // 10}"
     yield from by_parts(path, full, [
-        ("get_sheet_markup, a cell", ["get_sheet_markup→0"]),
-        ("range_clear_contents, a cell", ["range_clear_contents" + block]), (None, full),
-        ("range_clear_all, a cell", ["range_clear_all" + block]), (None, full),
+        ("get_sheet_markup a cell", ["get_sheet_markup→0"]),
+        ("range_clear_contents a cell", ["range_clear_contents" + block]), (None, full),
+        ("range_clear_all a cell", ["range_clear_all" + block]), (None, full),
     ], size).items()
     yield from by_parts(path, [], [
-        ("set_user_array_formula, a cell", [f"set_user_array_formula{block}→=XA1:XB9"]),
-        ("range_clear_contents, a cell of its array", ["range_clear_contents" + block]),
+        ("set_user_array_formula a cell", [f"set_user_array_formula{block}→=XA1:XB9"]),
+        ("range_clear_contents a cell of its array", ["range_clear_contents" + block]),
     ], size).items()
     copies = shapes.sheets_named("Spare", *(f"Spare ({n})" for n in range(1, size + 1)))
     one = ["duplicate_sheet→1"] * 5
-    yield from by_parts(path, copies, [("duplicate_sheet among its numbered copies", one), (None, ["delete_sheet→2"] * 5)], size, 1).items()
+    yield from by_parts(path, copies, [("duplicate_sheet among its copies", one), (None, ["delete_sheet→2"] * 5)], size, 1).items()
 
 
 def written_over(path, size):
@@ -261,7 +285,7 @@ def written_over(path, size):
     lines = [f"update_cell_with_formula→0→{i % 100 + 1}→1→={it}" for i, it in enumerate(shapes.formulas(size))]
     program = Program(path, [*shapes.sheets_named("Data", "Budget", "Next", "My data"), *lines[:100]])
     start = program.kilobytes()
-    for name in ("a formula written over, bytes", "the same that comes again, bytes"):
+    for name in ("written over", "coming again"):
         program.spent(lines)
         yield name, (program.kilobytes() - start) * 1024 / size
     program.end()
@@ -280,14 +304,7 @@ def far_apart(path, rows, columns=1_000):
             child.returncode = 0
             least[text] = min((used.ru_utime + used.ru_stime) * 1e6, least.get(text, 1e12))
     alone, both = least.values()
-    yield "get_sheet_markup of two cells far apart, a megabyte", (both - alone) / (rows * (columns + 1) / 1e6)
-
-
-# What is wanted at most of a part: microseconds, or bytes.
-AT_MOST = {
-    "update_defined_name, a mention": 2.0, "would_capture, a mention": 0.8, "get_sheet_markup of two cells far apart, a megabyte": 1_000,
-    "a formula written over, bytes": 250, "the same that comes again, bytes": 250,
-}
+    yield "get_sheet_markup a megabyte", (both - alone) / (rows * (columns + 1) / 1e6)
 
 
 def wanted(name, many, sizes, took):
@@ -295,9 +312,10 @@ def wanted(name, many, sizes, took):
     if name in AT_MOST:
         return f"{AT_MOST[name]:,}", max(took) > AT_MOST[name]
     twice = took[-1] > 2 * took[0]
-    if many in ("sheets", "") and name in A_SHEET:
-        return f"{NANOSECONDS} ns a sheet", twice and took[-1] * 1000 > NANOSECONDS * sizes[-1]
-    return "2.0 times", twice
+    if many in ("sheets", "copies") and name in A_SHEET:
+        most = NANOSECONDS * sizes[-1] / 1000
+        return f"{most:,.0f}", twice and took[-1] > most
+    return "twice", twice
 
 
 def told(took):
@@ -310,32 +328,34 @@ def quoted(name):
     return re.sub(r"^[a-z]+(_[a-z]+)+", r"`\g<0>`", name)
 
 
+def rows_table(found, sizes, head, row):
+    """The rows that matter, in which what is exceeded is bold."""
+    head("us a line", "many", *(f"{it:,}" for it in sizes), "wanted at most")
+    for title, many, names in ROWS:
+        took = [found[name, many] for name in names]
+        most = wanted(names[0], many, sizes, took[0])[0]
+        over = any(wanted(*it)[1] for it in ((name, many, sizes, found[name, many]) for name in names))
+        row(title, many, *("; ".join(map(told, it)) for it in zip(*took)), f"**{most}**" if over else most)
+    print()
+
+
 def tables(path, sizes, head, row):
-    """Prints the rows that matter, and then each command beside each of what books have many of."""
+    """Prints the rows that matter, then each use beside each of what books have many of, and what exceeds what is wanted."""
     left_out = missing(f"{os.path.dirname(os.path.realpath(__file__))}/../docs/COMMANDS.md")
     if left_out:
         sys.exit(f"bench: no use counts {', '.join(sorted(left_out))}")
     found = in_books(path, sizes)
-    rows = [(name, many, found[name, many]) for many, names in SHOWN.items() for name in names]
-    of_parts = {}
+    uses = [*dict.fromkeys(name for name, _ in found)]
     for size in sizes:
         for name, took in (*of_many(path, size), *written_over(path, size), *far_apart(path, size)):
-            of_parts.setdefault(name, []).append(took)
-    rows += [(name, "", took) for name, took in of_parts.items()]
+            found.setdefault((name, next(many for _, many, names in ROWS if name in names)), []).append(took)
+    rows_table(found, sizes, head, row)
+    head("us a line, in books of " + ", ".join(f"{it:,}" for it in sizes), *FEW)
+    for name in uses:
+        row(quoted(name), *("; ".join(map(told, found.get((name, many), []))) + (f" a {many[:-1]}" if (name, many) in LISTS else "") for many in FEW))
     exceeding = {}
-    head("us a line", "many", *(f"{it:,}" for it in sizes), "times", "wanted at most", "over")
-    for name, many, took in rows:
-        most, over = wanted(name, many, sizes, took)
-        row(quoted(name), many, *map(told, took), f"{took[-1] / took[0]:.1f}", most, "over" if over else "")
-        if over:
+    for (name, many), took in found.items():
+        if wanted(name, many, sizes, took)[1]:
             exceeding.setdefault(name, []).append(many)
-    print()
-    head("us a line, in books of " + ", ".join(f"{it:,}" for it in sizes), *FEW, "over")
-    for name in dict.fromkeys(it for it, _ in found):
-        over = [many for many in FEW if (name, many) in found and wanted(name, many, sizes, found[name, many])[1]]
-        cells = ("; ".join(map(told, found.get((name, many), []))) + (f" a {many[:-1]}" if (name, many) in LISTS else "") for many in FEW)
-        row(quoted(name), *cells, ", ".join(over))
-        if over:
-            exceeding[name] = over
-    names = (quoted(name) + (f" ({', '.join(many)})" if many[0] else "") for name, many in exceeding.items())
-    print(f"\nOver what is wanted: {'; '.join(names) or 'nothing'}\n")
+    names = "; ".join(f"{quoted(name)} ({', '.join(it)})" for name, it in exceeding.items())
+    print(f"\nOver what is wanted: {names or 'nothing'}\n")
