@@ -301,8 +301,9 @@ def far_apart(path, rows, columns=1_000):
             child = subprocess.Popen([path], stdin=subprocess.PIPE, stdout=subprocess.DEVNULL)
             child.stdin.write(text.encode())
             child.stdin.close()
-            used = os.wait4(child.pid, 0)[2]
-            child.returncode = 0
+            _, child.returncode, used = os.wait4(child.pid, 0)
+            if child.returncode:
+                sys.exit("bench: the program didn't end well after a markup")
             least[text] = min((used.ru_utime + used.ru_stime) * 1e6, least.get(text, 1e12))
     alone, both = least.values()
     yield "get_sheet_markup a megabyte", (both - alone) / (rows * (columns + 1) / 1e6)
@@ -329,29 +330,35 @@ def quoted(name):
     return re.sub(r"^[a-z]+(_[a-z]+)+", r"`\g<0>`", name)
 
 
-def rows_table(found, sizes, head, row):
-    """The rows that matter, in which what is exceeded is bold."""
-    head("us a line", "many", *(f"{it:,}" for it in sizes), "wanted at most")
+def measured(path, sizes):
+    """By the name of a use and by what its book has many of: what it takes in books of these sizes."""
+    found = in_books(path, sizes)
+    for size in sizes:
+        for name, took in (*of_many(path, size), *written_over(path, size), *far_apart(path, size)):
+            found.setdefault((name, next(many for _, many, names in ROWS if name in names)), []).append(took)
+    return found
+
+
+def rows_table(by, sizes, head, row):
+    """The rows that matter, by one program or several, in which what the last one exceeds is bold."""
+    head("us a line", "many", *(f"{size:,}" + (f", {it}" if len(by) > 1 else "") for it in by for size in sizes), "wanted at most")
     for title, many, names in ROWS:
-        took = [max(it) for it in zip(*(found[name, many] for name in names))]
-        most, over = wanted(names[0], many, sizes, took)
+        took = [max(found[name, many][at] for name in names) for found in by.values() for at in range(len(sizes))]
+        most, over = wanted(names[0], many, sizes, took[-len(sizes):])
         row(title, many, *map(told, took), f"**{most}**" if over else most)
     print()
 
 
-def tables(path, sizes, head, row):
+def tables(programs, sizes, head, row):
     """Prints the rows that matter, then each use beside each of what books have many of, and what exceeds what is wanted."""
     left_out = missing(f"{os.path.dirname(os.path.realpath(__file__))}/../docs/COMMANDS.md")
     if left_out:
         sys.exit(f"bench: no use counts {', '.join(sorted(left_out))}")
-    found = in_books(path, sizes)
-    uses = [*dict.fromkeys(name for name, _ in found)]
-    for size in sizes:
-        for name, took in (*of_many(path, size), *written_over(path, size), *far_apart(path, size)):
-            found.setdefault((name, next(many for _, many, names in ROWS if name in names)), []).append(took)
-    rows_table(found, sizes, head, row)
+    by = {it: measured(path, sizes) for it, path in programs.items()}
+    rows_table(by, sizes, head, row)
+    found = by["ours"]
     head("us a line, in books of " + ", ".join(f"{it:,}" for it in sizes), *FEW)
-    for name in uses:
+    for name in dict.fromkeys(it for use in [*USES, *MORE["cells"], *MORE["definitions"]] for it, _, _ in phases(use) if it):
         row(quoted(name), *("; ".join(map(told, found.get((name, many), []))) + (f" a {many[:-1]}" if (name, many) in LISTS else "") for many in FEW))
     exceeding = {}
     for (name, many), took in found.items():
