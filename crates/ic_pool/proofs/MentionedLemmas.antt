@@ -1,6 +1,6 @@
 -- An index by mention keeps up with the formulas.
-use Rattle.std.proofs.Common.{◌≡◌, ℕ, zero, suc, ◌<◌, List, [], ◌∷◌, ◌++◌, Bool, true, false, ◌&&◌, ◌||◌, OnOk, Some, refl, sym, ap, ◌∙◌, subst, length, set, ◌⊎◌, inl, inr}
-use Rattle.std.specs.Prelude.{nat_eq}
+use Rattle.std.proofs.Common.{◌≡◌, ℕ, zero, suc, ◌<◌, List, [], ◌∷◌, ◌++◌, Bool, true, false, ◌&&◌, ◌||◌, OnOk, Some, refl, sym, ap, ◌∙◌, subst, length, set, arith, ◌⊎◌, inl, inr}
+use Rattle.std.specs.Prelude.{nat_eq, ◌==◌}
 use Rattle.std.specs.BTreeSet.{BTreeSet, contains}
 use Rattle.std.specs.List.{AllByRecursion, slice_get}
 use Rattle.std.specs.Ordering.{nat_cmp}
@@ -10,7 +10,7 @@ use Rattle.std.specs.Result.{is_ok}
 use Rattle.std.proofs.lemmas.Bool.{eqb-true}
 use Rattle.std.proofs.lemmas.Option.{slice_get_within}
 use Rattle.ic_laws.specs.declared.tree.Formula.{Formula}
-use Rattle.ic_pool.specs.MentionPlaces.{HasAt, HasPassing, KeepsAll, KnowsAll, Noted, has_place, has_place_of}
+use Rattle.ic_pool.specs.MentionPlaces.{HasAt, HasPassing, KeepsAll, KnowsAll, MentionsNone, Noted, has_place, has_place_of}
 use Rattle.ic_pool.specs.Pool.{is_among}
 use Rattle.ic_pool.specs.Rewrites.{changed_by}
 use Rattle.ic_pool.specs.Topics.{mentions_some, topics_in}
@@ -100,6 +100,21 @@ some_place index at x (topic ∷ topics) has e = by_head (is_among topic (topics
     by_head : (b : Bool) → is_among topic (topics_in x) ≡ b → (b || mentions_some topics x) ≡ true → (mentions_some topics x ≡ true → has_place_of index topics at ≡ true) → has_place_of index (topic ∷ topics) at ≡ true
     by_head true is f rest = ap (λ b. b || has_place_of index topics at) (has topic is)
     by_head false is f rest = ap (λ b. has_place index topic at || b) (rest f) ∙ or_true (has_place index topic at)
+
+-- there are none
+pub none_there : (xs : List Formula) (n : ℕ) → n ≡ length xs → (n == 0) ≡ true → (k : ℕ) (x : Formula) → slice_get xs k ≡ Some x → ⊥
+none_there xs n counted none k x e =
+    let within = slice_get_within xs k x e in
+    let nought = eqb-true n 0 none in
+    omega (arith, within, counted, nought)
+
+-- where it has no place of any of the topics
+pub none_mentioned : (index : Noted) (topics : List ℕ) (xs : List Formula) → KnowsAll index xs → ((at : ℕ) → has_place_of index topics at ≡ false) → MentionsNone topics xs
+none_mentioned index topics xs knows none at x e = by_test (mentions_some topics x) refl
+  where
+    by_test : (b : Bool) → mentions_some topics x ≡ b → mentions_some topics x ≡ false
+    by_test false is = is
+    by_test true is = absurd (clash (has_place_of index topics at) (some_place index at x topics (knows at x e) is) (none at))
 
 pub places_found : (index : Noted) (topics : List ℕ) (xs : List Formula) (places : BTreeSet ℕ) → KnowsAll index xs → ((at : ℕ) → has_place_of index topics at ≡ true → contains nat_cmp places at ≡ true) → HasPassing (mentions_some topics) places xs
 places_found index topics xs places knows found at x e passes = found at (some_place index at x topics (knows at x e) passes)

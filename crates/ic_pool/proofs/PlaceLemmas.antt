@@ -1,8 +1,10 @@
 -- Places in an index by mention.
-use Rattle.std.proofs.Common.{◌≡◌, ℕ, ◌<◌, ◌+◌, List, [], ◌∷◌, Bool, true, false, cond, ◌||◌, refl, sym, ap, ◌∙◌, get_or, length, take, ◌⊎◌, inl, inr}
+use Rattle.std.proofs.Common.{◌≡◌, ℕ, suc, ◌<◌, ◌+◌, List, [], ◌∷◌, Bool, true, false, cond, ◌||◌, refl, sym, ap, ap₂, ◌∙◌, get_or, length, take, arith, ◌⊎◌, inl, inr}
+use Rattle.std.specs.Prelude.{◌==◌}
 use Rattle.std.specs.BTreeSet.{BTreeSet, Updates, contains}
 use Rattle.std.specs.List.{list_any}
 use Rattle.std.specs.Ordering.{is_eq, nat_cmp}
+use Rattle.std.proofs.lemmas.Bool.{eqb-true}
 use Rattle.std.proofs.lemmas.List.{take_more}
 use Rattle.std.proofs.lemmas.List.Folds.{list_any-append}
 
@@ -17,6 +19,16 @@ pub any_more : (test : ℕ → Bool) (xs : List ℕ) (i : ℕ) → i < length xs
 any_more test xs i below e =
     either (list_any test (take i xs)) (test (get_or xs i 0))
     (sym (ap (list_any test) (take_more xs i 0 below) ∙ list_any-append test (take i xs) (get_or xs i 0 ∷ [])) ∙ e)
+
+-- none before one passes, nor that one
+pub none_more : (test : ℕ → Bool) (xs : List ℕ) (i : ℕ) → i < length xs → list_any test (take i xs) ≡ false → test (get_or xs i 0) ≡ false → list_any test (take (i + 1) xs) ≡ false
+none_more test xs i below before here =
+    ap (list_any test) (take_more xs i 0 below) ∙ list_any-append test (take i xs) (get_or xs i 0 ∷ []) ∙ ap₂ (λ a b. a || (b || false)) before here
+
+-- a list without items
+pub no_items : {X : Type 0} (xs : List X) → (length xs == 0) ≡ true → xs ≡ []
+no_items [] e = refl
+no_items (x ∷ xs) e = let none : suc (length xs) ≡ 0 = eqb-true (suc (length xs)) 0 e in absurd (omega (arith, none))
 
 either_way : (b : Bool) → cond b true true ≡ true
 either_way true = refl

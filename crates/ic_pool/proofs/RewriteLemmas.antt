@@ -154,6 +154,15 @@ module _ (f : Formula → Formula) (test : Formula → Bool) (formulas : List Fo
   ascend_sorted [] sorted = tt
   ascend_sorted (k ∷ ks) sorted = (omega arith, ascend_after k ks sorted.0 sorted.1)
 
+  -- before the first
+  not_begun : (s : RewritesState) → s.changes ≡ [] → s.places ≡ [] → RewrittenTo 0 s
+  not_begun s no_changes no_places = record {
+    made = ap (λ changes. changed_by changes formulas) no_changes;
+    within = subst (AllByRecursion Within) (sym no_changes) tt;
+    changes = no_changes;
+    places = no_places;
+  }
+
   module _ (leaves : (k : ℕ) (x : Formula) → slice_get formulas k ≡ Some x → test x ≡ false → f x ≡ x) where
     stays : (i : ℕ) (x : Formula) (s : RewritesState) → f x ≡ x → test x ≡ false → IsNoted i x (f x) (test x) s s
     stays i x s same fails = record {
@@ -257,15 +266,18 @@ module _ (f : Formula → Formula) (test : Formula → Bool) (formulas : List Fo
             rewritten_end (length formulas) s
             (past_to so_far.i (length formulas) s so_far.done (omega (arith, more)) (omega arith) (λ k x le lt e. none_passes so_far.i [] so_far.awaits k x le e refl)) (omega arith)
 
-  -- before the first
+    -- where none passes there is nothing to do
+    pub none_changed : (s : RewritesState) → s.changes ≡ [] → s.places ≡ [] → ((k : ℕ) (x : Formula) → slice_get formulas k ≡ Some x → test x ≡ false) → Rewritten s
+    none_changed s no_changes no_places fail = all_looked [] s refl (record {
+      i = 0;
+      done = not_begun s no_changes no_places;
+      awaits = record { ascend = tt; passing = λ k x le e passes. absurd (clash (test x) passes (fail k x e)) };
+    })
+
+  -- where all await
   pub none_looked : (places : BTreeSet ℕ) (left : List ℕ) (s : RewritesState) → left ≡ places.keys → s.changes ≡ [] → s.places ≡ [] → IsStrictlySortedBy nat_cmp places.keys → HasPassing test places formulas → RewrittenSoFar left s
   none_looked places left s all no_changes no_places sorted has = subst (λ ks. RewrittenSoFar ks s) (sym all) (record {
     i = 0;
-    done = record {
-      made = ap (λ changes. changed_by changes formulas) no_changes;
-      within = subst (AllByRecursion Within) (sym no_changes) tt;
-      changes = no_changes;
-      places = no_places;
-    };
+    done = not_begun s no_changes no_places;
     awaits = record { ascend = ascend_sorted places.keys sorted; passing = λ k x le e passes. same_test k places.keys ∙ has k x e passes };
   })

@@ -1,5 +1,5 @@
 -- Where formulas mention what: for each topic the places of those that mention it. An index may have more places than those.
-use Rattle.std.specs.Prelude.{◌≡◌, ℕ, List, [], Bool, true, Some}
+use Rattle.std.specs.Prelude.{◌≡◌, ℕ, List, [], Bool, true, false, Some}
 use Rattle.std.specs.BTreeMap.{is_at}
 use Rattle.std.specs.BTreeSet.{BTreeSet, contains}
 use Rattle.std.specs.List.{list_any, slice_get}
@@ -8,7 +8,7 @@ use Rattle.std.specs.Option.{unwrap_or}
 use Rattle.std.specs.Ordering.{nat_cmp}
 use Rattle.ic_laws.specs.declared.tree.Formula.{Formula}
 use Rattle.ic_pool.specs.Pool.{is_among}
-use Rattle.ic_pool.specs.Topics.{topics_in}
+use Rattle.ic_pool.specs.Topics.{mentions_some, topics_in}
 
 -- an index: topics, each with its places
 abbrev pub Noted : Type 0
@@ -41,3 +41,7 @@ KnowsAll index formulas = (at : ℕ) (formula : Formula) → slice_get formulas 
 -- places: of each formula that passes a test its place is one of them
 abbrev pub HasPassing : (Formula → Bool) → BTreeSet ℕ → List Formula → Type 0
 HasPassing test places formulas = (at : ℕ) (formula : Formula) → slice_get formulas at ≡ Some formula → test formula ≡ true → contains nat_cmp places at ≡ true
+
+-- no formula mentions something with one of these topics
+abbrev pub MentionsNone : List ℕ → List Formula → Type 0
+MentionsNone topics formulas = (at : ℕ) (formula : Formula) → slice_get formulas at ≡ Some formula → mentions_some topics formula ≡ false

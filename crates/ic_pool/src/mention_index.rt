@@ -202,6 +202,18 @@ impl MentionIndex {
         Ok(places)
     }
 
+    /// Whether it has no place of any of these topics. It takes no memory.
+    pub fn has_none(&self, topics: &[u64]) -> bool
+        ensures { result ≡ true → (at : ℕ) → has_place_of self.now topics.now at ≡ false }
+    {
+        for topic in topics {
+            if !self.places_with(*topic).is_empty() {
+                return false;
+            }
+        }
+        true
+    }
+
     /// The places of those that mention something with this topic, and maybe others.
     fn places_with(&self, topic: u64) -> &[u32]
         ensures { result.now ≡ places_with self.now topic }

@@ -1,27 +1,25 @@
-ghost use Rattle.std.specs.Prelude.{◌≡◌, ◌≤◌, ◌+◌, ◌<◌, ◌&&◌, ◌++◌, List, [], ◌∷◌, None, false, true, length, map, option_map, IfOk, IfSome, IsOk, OnErr, OnOk, Some};
-ghost use Rattle.std.specs.List.{AllByRecursion, slice_get};
+ghost use Rattle.std.specs.Prelude.{◌≡◌, ◌≤◌, ◌+◌, ◌<◌, ◌&&◌, ◌++◌, List, [], ◌∷◌, None, false, true, length, option_map, IfOk, IfSome, IsOk, OnErr, OnOk, Some};
+ghost use Rattle.std.specs.List.{slice_get};
 ghost use Rattle.ic_laws.specs.declared.tree.Formula.{Formula};
 ghost use Rattle.ic_pool.specs.Code.{code};
 ghost use Rattle.ic_pool.specs.MentionPlaces.{HasPassing};
-ghost use Rattle.ic_pool.specs.Mentions.{formula_after};
-ghost use Rattle.ic_pool.specs.Remade.{LeavesUntouched, touched_from};
-ghost use Rattle.ic_pool.specs.Rewrites.{FitsPool, ListsChanged, changes_nothing, rewritten_by};
+ghost use Rattle.ic_pool.specs.Rewrites.{FitsPool, changes_nothing, rewritten_by};
 ghost use Rattle.ic_pool.specs.Pool.{EndsWithNew, IsPlaced, dangling_places, first_place};
 ghost use Rattle.ic_pool.specs.Topics.{mentions_some};
 
 mod index;
 mod mentioning;
+mod preparing;
 mod rewrites;
 
 use crate::look_up::LookUp;
 use crate::mention_index::MentionIndex;
 use crate::same::are_same;
-use crate::{BookChange, HashedKey, Remaking, Steps, copy_formula, key_of};
+use crate::{HashedKey, Steps, copy_formula, key_of};
 use ic_laws::{Formula, OutOfMemory};
 use index::{all_places, dangling_in, dangling_weight, index_of, put_late, renewed};
 pub use mentioning::{mentions_name, mentions_sheet};
 pub use rewrites::{Replacement, Rewrites};
-use rewrites::{rewrites_at, rewrites_remade};
 use std::alloc::Global;
 use std::collections::{BTreeSet, LinkedList};
 use std::marker::{Brand, Model};
@@ -31,6 +29,12 @@ use std::sync::ledger::{Blank, Ledger};
 pub struct Pool {
     alloc: Global,
     formulas: Vec<Formula>,
+    /// How many formulas mention something that wasn't found.
+    dangling: usize,
+    /// Where they mention what, so that a change looks at those alone that mention what it is about.
+    mentions: MentionIndex,
+    /// Whether that has each formula.
+    knows_mentions: bool,
     /// Where it is whole: for each formula its first place, by its key. Where it isn't, a change has taken keys out, and
     /// the places of the formulas that it made are late: the next write puts their keys in.
     index: LookUp,
@@ -40,12 +44,6 @@ pub struct Pool {
     /// Whether the look-up has all formulas but those at the late places.
     knows_rest: bool,
     late: LinkedList<usize>,
-    /// Where they mention what, so that a change looks at those alone that mention what it is about.
-    mentions: MentionIndex,
-    /// Whether that has each formula.
-    knows_mentions: bool,
-    /// How many formulas mention something that wasn't found.
-    dangling: usize,
 }
 
 impl Drop for Pool {
@@ -282,40 +280,6 @@ impl Pool {
             self.index.take_out(key, self.formulas.len());
             self.dangling -= dangling_weight(&formula);
         }
-    }
-
-    /// What a change will do to its formulas, whose words are looked up from the sheet with this id, or from none; all
-    /// prepared before any of them changes.
-    pub fn prepare<C: BookChange>(
-        &self,
-        change: &C,
-        scope: Option<u32>,
-    ) -> Result<Rewrites, OutOfMemory>
-        ensures made { IfOk result (λ w. rewritten_by w self.now.formulas
-            ≡ map (formula_after (C.change change.now) scope) self.now.formulas) }
-        ensures listed { IfOk result (ListsChanged (C.change change.now) scope self.now.formulas) }
-        ensures fits { IfOk result (λ w. FitsPool w self.now.formulas) }
-    {
-        let places = self.places_of(&[change.topic()])?;
-        rewrites_at(self.alloc, &self.formulas, &places, change, scope)
-    }
-
-    /// The same for formulas that are made anew, if the rule leaves each that it doesn't touch.
-    pub fn prepare_remade<R: Remaking>(
-        &self,
-        remaking: &R,
-        scope: Option<u32>,
-    ) -> Result<Rewrites, OutOfMemory>
-        requires { AllByRecursion (LeavesUntouched (R.made remaking.now) scope) self.now.formulas }
-        ensures made { IfOk result (λ w. rewritten_by w self.now.formulas
-            ≡ map ((R.made remaking.now).becomes scope) self.now.formulas) }
-        ensures listed { IfOk result (λ w. w.changes
-            ≡ touched_from (R.made remaking.now) scope 0 self.now.formulas) }
-        ensures fits { IfOk result (λ w. FitsPool w self.now.formulas) }
-    {
-        let (one, other) = remaking.topics();
-        let places = self.places_of(&[one, other])?;
-        rewrites_remade(self.alloc, &self.formulas, &places, remaking, scope)
     }
 
     /// The places of the formulas that mention something with one of these topics, and maybe others.

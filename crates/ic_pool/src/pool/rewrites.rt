@@ -142,7 +142,7 @@ impl Rewrites {
     }
 
     /// No change.
-    fn new(alloc: Global) -> Rewrites
+    pub(super) fn new(alloc: Global) -> Rewrites
         ensures changes { result.changes ≡ [] }
         ensures places { result.places ≡ [] }
     {

@@ -1,0 +1,23 @@
+use Rattle.std.proofs.Common.{◌∙◌, ap, subst, sym}
+use Rattle.ic_pool.specs.MentionPlaces.{HasPassing}
+use Rattle.ic_pool.specs.Pool.{PoolState}
+use Rattle.ic_pool.specs.Remade.{LeavesUntouched}
+use Rattle.ic_pool.specs.Topics.{mentions_some}
+use Rattle.ic_pool.proofs.MentionedLemmas.{narrower}
+use Rattle.ic_pool.proofs.RemadeLemmas.{all_at}
+use Rattle.ic_pool.proofs.RewriteLemmas.{none_changed}
+use Rattle.ic_pool.proofs.pool.Pool.remade_about.Goals as goal
+
+pub returns-then-mentions_none : goal.returns-then-mentions_none
+returns-then-mentions_none g c =
+    let nothing =
+    none_changed ((g.R.Remaking.made c.args.remaking.now).becomes c.args.scope) ((g.R.Remaking.made c.args.remaking.now).touches c.args.scope) c.args.self.now.formulas (λ k x e. all_at (LeavesUntouched (g.R.Remaking.made c.args.remaking.now) c.args.scope) c.args.self.now.formulas k x c.requires.leaves e)
+    c.new.result c.new.ensures.changes c.new.ensures.places (λ k x e. c.requires.about c.args.scope x (c.mentions_none.ensures c.if-mentions_none.true k x e)) in
+    record { made = nothing.made; listed = nothing.changes; fits = nothing.fits }
+
+pub rewrites_remade-requires-clause-places : goal.rewrites_remade-requires-clause-places
+rewrites_remade-requires-clause-places g c =
+    let same = c.deref.ensures.value ∙ ap (λ (s : PoolState). s.formulas) c.self.view_is in
+    let about = mentions_some c.args.topics.now in
+    narrower about ((g.R.Remaking.made c.args.remaking.now).touches c.args.scope) c.in_ok-places.places c.deref.result.now (λ x e. c.requires.about c.args.scope x e)
+    (subst (HasPassing about c.in_ok-places.places) (sym same) c.in_ok-places.ensures)
