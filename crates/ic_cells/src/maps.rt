@@ -1,7 +1,10 @@
 //! Ordered maps that contracts see as finite maps, so that a record which holds one is plain data.
 ghost use Rattle.std.specs.Prelude.{◌≡◌, None, option_copied, IfOk, OnErr, OnOk};
+ghost use Rattle.std.specs.Borrow.{LendsIf, sem};
+ghost use Rattle.std.specs.Option.{option_copied_mut};
 ghost use Rattle.std.specs.FinMap as map;
 ghost use Rattle.ic_cells.specs.Made.{PutsMade};
+ghost use Rattle.ic_cells.specs.contracts.maps.PlaceMap.{the_row};
 
 use ic_laws::OutOfMemory;
 use std::alloc::Global;
@@ -73,7 +76,19 @@ impl<T: Drop> PlaceMap<T> {
         self.inner.get(&(row, column))
     }
 
-    /// The same. The last place is asked first, behind which nothing stands: so it takes no search where places come in their
+    /// What stands at a place, which may be changed there; the place is searched once. None exactly where nothing does.
+    pub fn get_mut(&mut self, row: i32, column: i32) -> Option<&mut T>
+        ensures* writes_back { sem 𝓛 (LendsIf (the_row T.row) T.row self.entry result
+            (map.insert self.old (row, column)) self.old) }
+        ensures value { option_copied_mut result ≡ map.get self.old (row, column) }
+    {
+        match self.inner.get_mut(&(row, column)) {
+            Some(item) => Some(item),
+            None => None,
+        }
+    }
+
+    /// What `get` answers. The last place is asked first, behind which nothing stands: so it takes no search where places come in their
     /// order.
     pub fn get_from_last(&self, row: i32, column: i32) -> Option<&T>
         ensures { option_copied result ≡ map.get self.now (row, column) }

@@ -3,7 +3,7 @@ use Rattle.std.proofs.Common.{◌≡◌, ◌∙◌, refl, sym, ap, subst, ℕ, �
 use Rattle.std.proofs.lemmas.Bool.{and_parts, and_from, both_ways}
 use Rattle.std.proofs.lemmas.Int.{ints}
 use Rattle.std.specs.FinMap as finite
-use Rattle.std.specs.Option.{option_and_then, option_map, unwrap_or}
+use Rattle.std.specs.Option.{IfSome, option_and_then, option_map, unwrap_or}
 use Rattle.std.specs.Ordering.{int_eq}
 use Rattle.std.specs.Prelude.{int_lt, ◌+ℤ◌, ◌-ℤ◌, ◌≤ℤ◌, ◌<ℤ◌}
 use Rattle.std.proofs.Math.IntN.{nat_abs}
@@ -12,15 +12,13 @@ use Rattle.ic_cells.specs.declared.cell.Cell.{Cell}
 use Rattle.ic_laws.proofs.core.CellWritten.{place_cmp_total}
 use Rattle.ic_grid.proofs.BlockLemmas.{Bounds, area_bounds, same_by_parts}
 use Rattle.ic_grid.proofs.ContentsLemmas.{get-remade, get_with, remade_alike, remade_twice, same_contents, same_is}
-use Rattle.ic_grid.proofs.WalkLemmas.{InBlock, by_side, in_block}
-use Rattle.ic_grid.specs.Block.{Place, first_place, is_area, is_in_block, same_place}
+use Rattle.ic_grid.proofs.WalkLemmas.{InBlock, by_side, from_itself, from_row, in_block}
+use Rattle.ic_grid.specs.Block.{Place, first_place, has_next_column, is_area, is_in_block, next_place, same_place}
 use Rattle.ic_grid.specs.Change.{changed, changed_at, is_placeholder, remade_where}
 use Rattle.ic_grid.specs.Shape.{celled, emptied}
 use Rattle.ic_grid.specs.declared.changes.Change.TheVariants as changes
-use Rattle.ic_cells.specs.Cell.{style_of}
-use Rattle.ic_cells.specs.declared.cell.Cell.TheVariants as cells
 use Rattle.ic_grid.specs.Contents.{Contents, with_or_without}
-use Rattle.ic_grid.specs.Walk.{HasNoneIn, IsFirstIn, is_from, right_of}
+use Rattle.ic_grid.specs.Walk.{HasNoneIn, IsFirstIn, IsNextIn, is_from, right_of}
 use Rattle.ic_grid.specs.declared.block.Block.{Block}
 
 module _ {X : Type 0} (m : Contents X) (p : Place) where
@@ -70,6 +68,19 @@ pub first_from : (b : Block) (q : Place) → InBlock b q → is_from (first_plac
 unfolding is_from
 first_from b q i = grind (arith, ints, i.top, i.left)
 
+-- the next place by rows: in the same row, or the first of the next one
+next_is : (b : Block) (p : Place) (t : Bool) → has_next_column b p ≡ t → next_place b p ≡ cond t (right_of p) (p.0 +ℤ pos 1, b.column)
+next_is b p t e = ap (λ u. let n : Place = cond u (right_of p) (p.0 +ℤ pos 1, b.column) in n) e
+
+-- of the places of a block, those behind it are those behind the place to the right
+next_row_is : (b : Block) (p q : Place) → InBlock b p → InBlock b q → has_next_column b p ≡ false → is_from (p.0 +ℤ pos 1, b.column) q ≡ is_from (right_of p) q
+unfolding is_from
+next_row_is b p q i j e = grind (arith, ints, e, i.right, j.left, j.right)
+
+next_from_is : (b : Block) (p q : Place) → InBlock b p → InBlock b q → is_from (next_place b p) q ≡ is_from (right_of p) q
+next_from_is b p q i j =
+    by_side (has_next_column b p) (λ t. ap (λ (n : Place). is_from n q) (next_is b p true t)) (λ t. ap (λ (n : Place). is_from n q) (next_is b p false t) ∙ next_row_is b p q i j t)
+
 and_true : (a b c : Bool) → a ≡ true → b ≡ c → (a && b) ≡ c
 and_true true b c e h = h
 and_true false b c e h = cc
@@ -117,7 +128,7 @@ module _ {X : Type 0} (m : Contents X) (b : Block) (f : X → Option X) where
                     let never : None ≡ Some x = sym (none q (and_from (is_in_block b q) (is_from at q) t s)) ∙ unwalked_there q x e w in
                     cc
 
-    module _ (p : Place) (next : IsFirstIn cells b at p) (after : Contents X) (is : after ≡ remade_where (λ q. same_place q p) f cells) where
+    module _ (p : Place) (next : IsNextIn cells b at p) (after : Contents X) (is : after ≡ remade_where (λ q. same_place q p) f cells) where
       twice : (w s v : Bool) (x : X) → (w ≡ true → s ≡ false) → (w ≡ true → v ≡ true) → (w ≡ false → v ≡ s) → option_and_then (λ y. cond s (f y) (Some y)) (cond w (f x) (Some x)) ≡ cond v (f x) (Some x)
       twice true s v x h k l =
           ap (λ t. option_and_then (λ y. cond t (f y) (Some y)) (f x)) (h refl) ∙ same (f x) ∙ ap (λ t. cond t (f x) (Some x)) (sym (k refl))
@@ -208,20 +219,12 @@ nearer b at p area least after within =
 
 -- what becomes of one cell ----
 
-pub emptied_there : (m : Contents Cell) (p : Place) (s : ℕ) → option_map style_of (finite.get m p) ≡ Some s → finite.insert m p (cells.EmptyCell s) ≡ changed_at p changes.Empty m
-emptied_there m p s e = by_cell (finite.get m p) refl e
-  where
-    by_cell : (o : Option Cell) → finite.get m p ≡ o → option_map style_of o ≡ Some s → finite.insert m p (cells.EmptyCell s) ≡ changed_at p changes.Empty m
-    by_cell None is e = cc
-    by_cell (Some x) is e =
-        let same : style_of x ≡ s = cc in
-        ap (λ n. finite.insert m p (cells.EmptyCell n)) (sym same) ∙ one_remade m p (changed changes.Empty) x is
+pub emptied_there : (m : Contents Cell) (k p : Place) (x y : Cell) → k ≡ p → Some x ≡ finite.get m p → y ≡ emptied celled x → finite.insert m k y ≡ changed_at p changes.Empty m
+emptied_there m k p x y same e f =
+    ap (λ (q : Place). finite.insert m q y) same ∙ ap (finite.insert m p) f ∙ one_remade m p (changed changes.Empty) x (sym e)
 
-none_stays : (m : Contents Cell) (p : Place) (f : Cell → Option Cell) → option_map style_of (finite.get m p) ≡ None → m ≡ remade_where (λ q. same_place q p) f m
-none_stays m p f e = one_stays m p f (λ x is. let never : Some (style_of x) ≡ None = ap (option_map style_of) (sym is) ∙ e in cc)
-
-pub none_emptied : (m : Contents Cell) (p : Place) → option_map style_of (finite.get m p) ≡ None → m ≡ changed_at p changes.Empty m
-none_emptied m p e = none_stays m p (changed changes.Empty) e
+pub none_emptied : (m : Contents Cell) (p : Place) → None ≡ finite.get m p → m ≡ changed_at p changes.Empty m
+none_emptied m p e = one_stays m p (changed changes.Empty) (λ x is. let never : None ≡ Some x = e ∙ is in cc)
 
 module _ (m : Contents Cell) (p : Place) (t : Bool) (is : t ≡ unwrap_or (option_map is_placeholder (finite.get m p)) false) where
   told : (x : Cell) → finite.get m p ≡ Some x → is_placeholder x ≡ t
@@ -255,10 +258,17 @@ module _ (m : Contents Cell) (p : Place) (t : Bool) (is : t ≡ unwrap_or (optio
 pub walk_begun_at : {X : Type 0} (m : Contents X) (b : Block) (f : X → Option X) (at : Place) → at ≡ first_place b → m ≡ remade_where (walked m b f at) f m
 walk_begun_at m b f at e = subst (λ (p : Place). m ≡ remade_where (walked m b f p) f m) (sym e) (walk_begun m b f)
 
-pub walk_more_at : {X : Type 0} (m : Contents X) (b : Block) (f : X → Option X) (at : Place) (cells : Contents X) → cells ≡ remade_where (walked m b f at) f m → (p : Place) → IsFirstIn cells b at p
-    → (after : Contents X) → after ≡ remade_where (λ q. same_place q p) f cells → (next : Place) → next ≡ right_of p → after ≡ remade_where (walked m b f next) f m
+pub walk_more_at : {X : Type 0} (m : Contents X) (b : Block) (f : X → Option X) (at : Place) (cells : Contents X) → cells ≡ remade_where (walked m b f at) f m → (p : Place) → IsNextIn cells b at p
+    → (after : Contents X) → after ≡ remade_where (λ q. same_place q p) f cells → (next : Place) → next ≡ next_place b p → after ≡ remade_where (walked m b f next) f m
 walk_more_at m b f at cells so_far p first after is next e =
-    subst (λ (n : Place). after ≡ remade_where (walked m b f n) f m) (sym e) (walk_more m b f at cells so_far p first after is)
+    subst (λ (n : Place). after ≡ remade_where (walked m b f n) f m) (sym e)
+    (walk_more m b f at cells so_far p first after is ∙ remade_alike _ _ m (λ q x there. ap (λ t. cond t (f x) (Some x)) (walked_next q)))
+  where
+    walked_next : (q : Place) → walked m b f (right_of p) q ≡ walked m b f (next_place b p) q
+    walked_next q =
+        by_side (is_in_block b q)
+        (λ t. ap (λ s. is_in_block b q && not s) (sym (next_from_is b p q (in_block b p first.within) (in_block b q t))))
+        (λ t. ap (λ s. s && not (is_from (right_of p) q)) t ∙ sym (ap (λ s. s && not (is_from (next_place b p) q)) t))
 
 pub nearer_at : (b : Block) (at p : Place) → is_area b ≡ true → b.column ≤ℤ at.1 → is_from at p ≡ true → is_in_block b p ≡ true → (next : Place) → next ≡ right_of p → far b next < far b at
 nearer_at b at p area least after within next e = subst (λ (n : Place). far b n < far b at) (sym e) (nearer b at p area least after within)
@@ -270,3 +280,36 @@ step_bounds b p within next e =
 
 pub first_bounds : (b : Block) (at : Place) → at ≡ first_place b → (b.row ≤ℤ at.0) × (b.column ≤ℤ at.1)
 first_bounds b at e = subst (λ (n : Place). (b.row ≤ℤ n.0) × (b.column ≤ℤ n.1)) (sym e) (omega (arith, ints), omega (arith, ints))
+
+pub next_bounds : (b : Block) (p : Place) → is_in_block b p ≡ true → (next : Place) → next ≡ next_place b p → (b.row ≤ℤ next.0) × (b.column ≤ℤ next.1)
+next_bounds b p within next e =
+    let i = in_block b p within in
+    by_side (has_next_column b p)
+    (λ t. subst (λ (n : Place). (b.row ≤ℤ n.0) × (b.column ≤ℤ n.1)) (sym (e ∙ next_is b p true t)) (i.top, omega (arith, ints, i.left)))
+    (λ t. subst (λ (n : Place). (b.row ≤ℤ n.0) × (b.column ≤ℤ n.1)) (sym (e ∙ next_is b p false t)) (omega (arith, ints, i.top), omega (arith, ints)))
+
+pub next_nearer_at : (b : Block) (at p : Place) → is_area b ≡ true → b.column ≤ℤ at.1 → is_from at p ≡ true → is_in_block b p ≡ true → (next : Place) → next ≡ next_place b p → far b next < far b at
+next_nearer_at b at p area least after within next e =
+    by_side (has_next_column b p) (λ t. nearer_at b at p area least after within next (e ∙ next_is b p true t))
+    (λ t. subst (λ (n : Place). far b n < far b at) (sym (e ∙ next_is b p false t)) below)
+  where
+    below : far b (p.0 +ℤ pos 1, b.column) < far b at
+    below =
+        let s = area_bounds b area in
+        let k = in_block b p within in
+        let low = from_row at p after in
+        fewer (nat_abs ((b.row +ℤ b.height) -ℤ at.0)) (nat_abs (pos 16386 -ℤ at.1)) (nat_abs ((b.row +ℤ b.height) -ℤ (p.0 +ℤ pos 1))) (nat_abs (pos 16386 -ℤ b.column))
+        (inl (less_abs ((b.row +ℤ b.height) -ℤ (p.0 +ℤ pos 1)) ((b.row +ℤ b.height) -ℤ at.0) (omega (arith, ints, k.bottom)) (omega (arith, ints, low))))
+        (small_abs (pos 16386 -ℤ b.column) (omega (arith, ints, s.last_column, s.wide)) (omega (arith, ints, s.column)))
+
+-- a place with a cell, before which none stands, and a place itself, are next
+pub some_next : {X : Type 0} (m : Contents X) (b : Block) (at : Place) (r : Option Place) → IfSome r (IsFirstIn m b at) → IfSome r (IsNextIn m b at)
+some_next m b at None h = h
+some_next m b at (Some p) h = record { within = h.within; behind = h.behind; first = h.first }
+
+pub next_itself : {X : Type 0} (m : Contents X) (b : Block) (at : Place) → is_in_block b at ≡ true → IsNextIn m b at at
+next_itself m b at within = record {
+  within = within;
+  behind = from_itself at;
+  first = λ q left before. absurd (both_ways (is_from at q) before (and_parts (is_in_block b q) (is_from at q) left).1);
+}

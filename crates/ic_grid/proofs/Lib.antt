@@ -3,6 +3,7 @@ pub mod BlockLemmas
 pub mod ChangeLemmas
 pub mod ClearLemmas
 pub mod ContentsLemmas
+pub mod CrossLemmas
 pub mod HandedInLemmas
 pub mod KeyLemmas
 pub mod LoosenLemmas

@@ -24,8 +24,8 @@ use Rattle.ic_cells.specs.Maps.{place_cmp}
 use Rattle.ic_cells.specs.declared.cell.Cell.{Cell}
 use Rattle.ic_grid.proofs.ChangeLemmas.{first_from}
 use Rattle.ic_grid.proofs.ContentsLemmas.{same_is}
-use Rattle.ic_grid.proofs.WalkLemmas.{from_itself, from_means, from_when, in_block, no_array, row_before}
-use Rattle.ic_grid.specs.Arrays.{HasNoArray}
+use Rattle.ic_grid.proofs.WalkLemmas.{from_itself, from_means, from_when, in_block, row_before}
+use Rattle.ic_grid.specs.Arrays.{HasNoCrossing}
 use Rattle.ic_grid.specs.Block.{Place, first_place, is_in_block, same_place}
 use Rattle.ic_grid.specs.Contents.{Contents}
 use Rattle.ic_grid.specs.Walk.{IsFirstPassing, IsPassed, NonePasses, is_from, is_left, is_wanted, wanted_at}
@@ -59,7 +59,7 @@ none_before p q (e ∷ es) h out = by_test (same_place q e.0) refl (none_before 
 
 module _ (m : BTreeMap Place Cell) (w : Wanted) (b : Block) (from : Place) where
   abbrev test : Place → Bool
-  test = wanted_at w (tree.get place_cmp m)
+  test = wanted_at w b (tree.get place_cmp m)
 
   -- the entries that a walk has before it: no other place of the block is wanted
   pub record Ahead (es : List (Place × Cell)) : Type 0 where
@@ -68,7 +68,7 @@ module _ (m : BTreeMap Place Cell) (w : Wanted) (b : Block) (from : Place) where
     pub passed : (q : Place) → is_left b from q ≡ true → lookup (is_at (place_cmp q)) es ≡ None → test q ≡ false
 
   unwanted : (q : Place) → tree.get place_cmp m q ≡ None → test q ≡ false
-  unwanted q e = ap (λ o. unwrap_or (option_map (is_wanted w) o) false) e
+  unwanted q e = ap (λ o. unwrap_or (option_map (is_wanted w b q) o) false) e
 
   pub ahead_begun : (r : List (Place × Cell)) → IsRangeOf place_cmp (Included from) Unbounded m r → r ≡ entries_between place_cmp (Included from) Unbounded m.entries → tree.IsOrdered place_cmp m → Ahead r
   ahead_begun r range is ordered = record {
@@ -101,12 +101,12 @@ module _ (m : BTreeMap Place Cell) (w : Wanted) (b : Block) (from : Place) where
         by_test true s = absurd (both_ways (is_from p q) out (ap (is_from p) (same_is q p s) ∙ from_itself p))
         by_test false s = none_before p q rest (All-after_first place_cmp p (keys_of rest) so_here.sorted) out
 
-    tested : test p ≡ is_wanted w x
-    tested = ap (λ o. unwrap_or (option_map (is_wanted w) o) false) there
+    tested : test p ≡ is_wanted w b p x
+    tested = ap (λ o. unwrap_or (option_map (is_wanted w b p) o) false) there
 
-    pub ahead_found : (is_in_block b p && is_wanted w x) ≡ true → IsFirstPassing test b from p
+    pub ahead_found : (is_in_block b p && is_wanted w b p x) ≡ true → IsFirstPassing test b from p
     ahead_found t =
-        let both = and_parts (is_in_block b p) (is_wanted w x) t in
+        let both = and_parts (is_in_block b p) (is_wanted w b p x) t in
         record { passes = tested ∙ both.1; within = both.0; behind = behind; first = before }
 
     pub ahead_below : (b.row +ℤ b.height) ≤ℤ p.0 → NonePasses test b from
@@ -117,7 +117,7 @@ module _ (m : BTreeMap Place Cell) (w : Wanted) (b : Block) (from : Place) where
     pub ahead_passed : is_in_block b p ≡ false → p.0 <ℤ (b.row +ℤ b.height) → IsPassed test b from p
     ahead_passed out above = record { out = out; above = above; behind = behind; first = before }
 
-    pub ahead_more : (is_in_block b p && is_wanted w x) ≡ false → Ahead rest
+    pub ahead_more : (is_in_block b p && is_wanted w b p x) ≡ false → Ahead rest
     ahead_more t = record {
       sorted = sorted_tail place_cmp p (keys_of rest) so_here.sorted;
       here = All-tail (IsEntryInRange place_cmp (Included from) Unbounded m) (p, x) rest so_here.here;
@@ -127,7 +127,7 @@ module _ (m : BTreeMap Place Cell) (w : Wanted) (b : Block) (from : Place) where
         by_test : (q : Place) → is_left b from q ≡ true → lookup (is_at (place_cmp q)) rest ≡ None → (s : Bool) → same_place q p ≡ s → test q ≡ false
         by_test q left none true s =
             let inside = (and_parts (is_in_block b q) (is_from from q) left).0 in
-            ap test (same_is q p s) ∙ tested ∙ not_wanted (is_in_block b p) (is_wanted w x) (ap (is_in_block b) (sym (same_is q p s)) ∙ inside) t
+            ap test (same_is q p s) ∙ tested ∙ not_wanted (is_in_block b p) (is_wanted w b p x) (ap (is_in_block b) (sym (same_is q p s)) ∙ inside) t
           where
             not_wanted : (a c : Bool) → a ≡ true → (a && c) ≡ false → c ≡ false
             not_wanted true c e f = f
@@ -137,7 +137,8 @@ module _ (m : BTreeMap Place Cell) (w : Wanted) (b : Block) (from : Place) where
   pub ahead_end : (es : List (Place × Cell)) → Ahead es → es ≡ [] → NonePasses test b from
   ahead_end es so e q left = so.passed q left (ap (lookup (is_at (place_cmp q))) e)
 
--- no cell of an array is found from the first place of a block on
-pub no_array_in : (m : Contents Cell) (b : Block) (at : Place) → at ≡ first_place b → NonePasses (wanted_at wanted.OfArray (finite.get m)) b at → HasNoArray m b
-no_array_in m b at e none q inside =
-    no_array m b at none q (and_from (is_in_block b q) (is_from at q) inside (ap (λ (n : Place). is_from n q) e ∙ first_from b q (in_block b q inside)))
+-- no cell that tells of an array with a cell outside is found from the first place of a block on
+pub no_crossing_in : (m : Contents Cell) (b : Block) (at : Place) → at ≡ first_place b → NonePasses (wanted_at wanted.Crossing b (finite.get m)) b at → HasNoCrossing m b
+no_crossing_in m b at e none q x inside is =
+    ap (λ o. unwrap_or (option_map (is_wanted wanted.Crossing b q) o) false) (sym is)
+    ∙ none q (and_from (is_in_block b q) (is_from at q) inside (ap (λ (n : Place). is_from n q) e ∙ first_from b q (in_block b q inside)))

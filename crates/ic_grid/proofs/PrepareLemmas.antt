@@ -1,10 +1,8 @@
 -- The arrays with a cell in a block are released, one after another.
-use Rattle.std.proofs.Common.{◌≡◌, ◌∙◌, refl, sym, ap, subst, Bool, true, false, cond, not, ◌||◌, Option, Some, None, IsSome, arith}
-use Rattle.std.proofs.lemmas.Bool.{and_from, and_parts, both_ways}
-use Rattle.std.proofs.lemmas.Int.{ints}
+use Rattle.std.proofs.Common.{◌≡◌, ◌∙◌, refl, sym, ap, subst, Bool, true, false, cond, not, ◌||◌, Option, Some, None, IsSome}
+use Rattle.std.proofs.lemmas.Bool.{and_from, both_ways}
 use Rattle.std.specs.FinMap as finite
 use Rattle.std.specs.Option.{option_and_then}
-use Rattle.std.specs.Prelude.{◌+ℤ◌}
 use Rattle.ic_cells.specs.declared.cell.Cell.{Cell}
 use Rattle.ic_cells.specs.declared.cell.Cell.TheVariants as cells
 use Rattle.ic_grid.proofs.ArrayLemmas.{anchor_at_of, anchored, array_there, place_in_area, there}
@@ -13,9 +11,9 @@ use Rattle.ic_grid.proofs.BlockLemmas.{same_by_parts}
 use Rattle.ic_grid.proofs.ChangeLemmas.{first_from, right_is}
 use Rattle.ic_grid.proofs.ContentsLemmas.{both_made, get-remade, remade_alike, same_contents, same_is, same_itself, same_turned}
 use Rattle.ic_grid.proofs.LoosenLemmas.{Loosens, loosened_arrays}
-use Rattle.ic_grid.proofs.WalkLemmas.{by_side, from_row, in_block}
+use Rattle.ic_grid.proofs.WalkLemmas.{by_side, in_block}
 use Rattle.ic_grid.proofs.WriteLemmas.{IsLooseCell, after_release, either, free_cell, released_at}
-use Rattle.ic_grid.specs.Arrays.{HasNoArray, anchor_at, anchor_of, array_at, array_of, reaches}
+use Rattle.ic_grid.specs.Arrays.{anchor_at, anchor_of, array_at, array_of, reaches}
 use Rattle.ic_grid.specs.Block.{Place, block_at, blocks_meet, first_place, is_area, is_in_block, same_place}
 use Rattle.ic_grid.specs.Conditions.{AreArrays, AreInSheet}
 use Rattle.ic_grid.specs.Contents.{Contents, remade}
@@ -280,25 +278,3 @@ module _ (m : Contents Cell) where
                   some_of : (o : Option Array) → IsSome o → (array : Array) × (o ≡ Some array)
                   some_of None h = let never : false ≡ true = h in cc
                   some_of (Some array) h = (array, refl)
-
--- where no cell of an array stands in a block, none is to be released
-pub none_released : (m : Contents Cell) (b : Block) → AreArrays celled m → is_area b ≡ true → HasNoArray m b → m ≡ loosened_in celled b m
-none_released m b ok area none = progress_done m b at m so ok area behind
-  where
-    at : Place
-    at = (b.row +ℤ b.height, b.column)
-
-    so : Progress m b at m
-    so = record {
-      test = λ a. false;
-      is = nothing_released m;
-      sound = λ a t. let never : false ≡ true = t in cc;
-      complete = λ p a within before anchor. let never : None ≡ Some a = sym (none p within) ∙ anchor in cc;
-    }
-
-    behind : HasNoneIn m b at
-    behind q left =
-        let both = and_parts (is_in_block b q) (is_from at q) left in
-        let i = in_block b q both.0 in
-        let low = from_row at q both.1 in
-        absurd (omega (arith, ints, i.bottom, low))

@@ -1,5 +1,5 @@
 -- What stands at places is changed, place by place; and the cells of a spill are emptied so.
-use Rattle.std.proofs.Common.{◌≡◌, ◌∙◌, refl, sym, ap, subst, ℕ, ℤ, pos, ap₂, Bool, true, false, cond, ◌||◌, Option, Some, None}
+use Rattle.std.proofs.Common.{◌≡◌, ◌∙◌, refl, sym, ap, ℕ, ℤ, pos, Bool, true, false, cond, ◌||◌, Option, Some, None}
 use Rattle.std.specs.FinMap as finite
 use Rattle.std.specs.Option.{option_and_then}
 use Rattle.std.specs.Prelude.{◌+ℤ◌, ◌≤ℤ◌}
@@ -9,12 +9,11 @@ use Rattle.ic_grid.proofs.BlockLemmas.{column_more, no_columns, no_rows, row_mor
 use Rattle.ic_grid.specs.Block.{Place, block_at, is_in_lines, same_place}
 use Rattle.ic_grid.specs.Contents.{Contents, changed_where}
 use Rattle.ic_grid.specs.Prepare.{anchor_reset, unspilled}
-use Rattle.ic_grid.specs.Shape.{celled, spill_of}
+use Rattle.ic_grid.specs.Shape.{celled}
 use Rattle.ic_grid.specs.Value.{formula_array}
 use Rattle.ic_grid.specs.declared.block.Array.{Array}
 use Rattle.ic_cells.specs.declared.value.FormulaValue.TheVariants as formulas
 use Rattle.ic_cells.specs.declared.value.FormulaValue.{FormulaValue}
-use Rattle.ic_cells.specs.declared.value.SpillValue.{SpillValue}
 use Rattle.ic_cells.specs.declared.cell.Cell.{Cell}
 use Rattle.ic_cells.specs.declared.cell.Cell.TheVariants as cells
 
@@ -82,30 +81,6 @@ unspilled_twice a (cells.CellFormula f s v) = refl
 unspilled_twice a (cells.ArrayFormula kind f s r v) = refl
 unspilled_twice a (cells.SpillCell s b v) = settled (same_place a b) (unspilled celled a) (cells.SpillCell s b v) (cells.EmptyCell s) refl refl
 
--- what a spill's cell is, and that nothing else is emptied
-spill_is : (o : Option Cell) (s : ℕ) (a : Place) → spill_of o ≡ Some (s, a) → (v : SpillValue) × (o ≡ Some (cells.SpillCell s a v))
-spill_is None s a e = cc
-spill_is (Some (cells.EmptyCell n)) s a e = cc
-spill_is (Some (cells.BooleanCell v n)) s a e = cc
-spill_is (Some (cells.NumberCell v n)) s a e = cc
-spill_is (Some (cells.ErrorCell v n)) s a e = cc
-spill_is (Some (cells.SharedString v n)) s a e = cc
-spill_is (Some (cells.CellFormula f n v)) s a e = cc
-spill_is (Some (cells.ArrayFormula kind f n r v)) s a e = cc
-spill_is (Some (cells.SpillCell n b v)) s a e =
-    let p : ◌≡◌ {A = ℕ × Place} (n, b) (s, a) = cc in
-    (v, ap₂ (λ (k : ℕ) (c : Place). Some (cells.SpillCell k c v)) (ap (λ (z : ℕ × Place). z.0) p) (ap (λ (z : ℕ × Place). z.1) p))
-
-no_spill : (x : Cell) (a : Place) → spill_of (Some x) ≡ None → unspilled celled a x ≡ x
-no_spill (cells.EmptyCell n) a e = refl
-no_spill (cells.BooleanCell v n) a e = refl
-no_spill (cells.NumberCell v n) a e = refl
-no_spill (cells.ErrorCell v n) a e = refl
-no_spill (cells.SharedString v n) a e = refl
-no_spill (cells.CellFormula f n v) a e = refl
-no_spill (cells.ArrayFormula kind f n r v) a e = refl
-no_spill (cells.SpillCell n b v) a e = cc
-
 -- what stands where an array formula does
 pub there_array : (p : Place) (o : Option Cell) (f s : ℕ) (array : Array) → formula_array p o ≡ Some (f, s, array)
     → (v : FormulaValue) × (o ≡ Some (cells.ArrayFormula array.kind f s (array.block.width, array.block.height) v)) × (block_at p array.block.width array.block.height ≡ array.block)
@@ -134,31 +109,14 @@ no_anchor p (cells.CellFormula f n v) e = refl
 no_anchor p (cells.SpillCell n b v) e = refl
 no_anchor p (cells.ArrayFormula kind f n r v) e = cc
 
-passed : (t : Bool) (x y : Cell) → t ≡ true → x ≡ cond t x y
-passed true x y e = refl
-passed false x y e = cc
-
-failed : (t : Bool) (x y : Cell) → t ≡ false → cond t x y ≡ y
-failed true x y e = cc
-failed false x y e = refl
-
 module _ (m : Contents Cell) (p : Place) where
-  -- a place of which one cell, if any, was emptied
-  pub is_unspilled : (a b : Place) (s : ℕ) → spill_of (finite.get m p) ≡ Some (s, b) → same_place a b ≡ true → finite.insert m p (cells.EmptyCell s) ≡ changed_where (λ q. same_place q p) (unspilled celled a) m
-  is_unspilled a b s e t =
-      let here = spill_is (finite.get m p) s b e in
-      ap (finite.insert m p) (passed (same_place a b) (cells.EmptyCell s) (cells.SpillCell s b here.0) t) ∙ one_changed m p (unspilled celled a) (cells.SpillCell s b here.0) here.1
+  -- a place of which the cell, if any, was emptied
+  pub is_unspilled : (a k : Place) (x y : Cell) → k ≡ p → Some x ≡ finite.get m p → y ≡ unspilled celled a x → finite.insert m k y ≡ changed_where (λ q. same_place q p) (unspilled celled a) m
+  is_unspilled a k x y same e f =
+      ap (λ (q : Place). finite.insert m q y) same ∙ ap (finite.insert m p) f ∙ one_changed m p (unspilled celled a) x (sym e)
 
-  pub of_another : (a b : Place) (s : ℕ) → spill_of (finite.get m p) ≡ Some (s, b) → same_place a b ≡ false → m ≡ changed_where (λ q. same_place q p) (unspilled celled a) m
-  of_another a b s e t =
-      let here = spill_is (finite.get m p) s b e in
-      one_kept m p (unspilled celled a) (λ x is.
-      let same : Some x ≡ Some (cells.SpillCell s b here.0) = sym is ∙ here.1 in
-      let one : x ≡ cells.SpillCell s b here.0 = cc in
-      subst (λ (y : Cell). unspilled celled a y ≡ y) (sym one) (failed (same_place a b) (cells.EmptyCell s) (cells.SpillCell s b here.0) t))
-
-  pub none_there : (a : Place) → spill_of (finite.get m p) ≡ None → m ≡ changed_where (λ q. same_place q p) (unspilled celled a) m
-  none_there a e = one_kept m p (unspilled celled a) (λ x is. no_spill x a (ap spill_of (sym is) ∙ e))
+  pub none_there : (f : Cell → Cell) → None ≡ finite.get m p → m ≡ changed_where (λ q. same_place q p) f m
+  none_there f e = one_kept m p f (λ x is. let never : None ≡ Some x = e ∙ is in cc)
 
   -- an array formula that was reset, if any
   pub is_reset : (f s : ℕ) (array : Array) → formula_array p (finite.get m p) ≡ Some (f, s, array) → finite.insert m p (cells.ArrayFormula array.kind f s (pos 1, pos 1) formulas.Unevaluated) ≡ changed_where (λ q. same_place q p) (anchor_reset celled) m

@@ -1,21 +1,15 @@
 -- Whether some place of a block passes a test, found place by place.
-use Rattle.std.proofs.Common.{◌≡◌, ◌∙◌, refl, sym, ap, Bool, true, false, not, ◌&&◌, ◌||◌, List, [], ◌∷◌, None, IsSome, is_some}
+use Rattle.std.proofs.Common.{◌≡◌, ◌∙◌, refl, sym, ap, Bool, true, false, not, ◌&&◌, ◌||◌, List, [], ◌∷◌, IsSome, is_some}
 use Rattle.std.proofs.lemmas.Bool.{and_parts, and_from, both_ways}
 use Rattle.std.specs.FinMap as finite
 use Rattle.std.specs.List.{list_any}
-use Rattle.std.specs.Option.{option_and_then}
-use Rattle.ic_cells.specs.declared.cell.Cell.{Cell}
 use Rattle.ic_grid.proofs.BlockLemmas.{same_by_parts}
 use Rattle.ic_grid.proofs.ChangeLemmas.{first_from, right_is}
 use Rattle.ic_grid.proofs.ContentsLemmas.{same_is, same_itself}
 use Rattle.ic_grid.proofs.WalkLemmas.{by_side, in_block}
-use Rattle.ic_grid.specs.Arrays.{HasNoArray, array_at, array_of, has_sought, is_sought}
 use Rattle.ic_grid.specs.Block.{Place, first_place, is_in_block, same_place}
 use Rattle.ic_grid.specs.Contents.{Contents}
-use Rattle.ic_grid.specs.Shape.{celled}
 use Rattle.ic_grid.specs.Walk.{HasNoneIn, IsFirstIn, is_from, right_of}
-use Rattle.ic_grid.specs.declared.arrays.Sought.{Sought}
-use Rattle.ic_grid.specs.declared.arrays.Sought.TheVariants as sought
 use Rattle.ic_grid.specs.declared.block.Block.{Block}
 
 in_list : (test : Place → Bool) (p : Place) (ks : List Place) → test p ≡ true → list_any (same_place p) ks ≡ true → list_any test ks ≡ true
@@ -28,7 +22,7 @@ in_list test p (k ∷ ks) t e =
     or_right true b e = refl
     or_right false b e = e
 
-witness : (test : Place → Bool) (ks : List Place) → list_any test ks ≡ true → (k : Place) × (test k ≡ true) × (list_any (same_place k) ks ≡ true)
+pub witness : (test : Place → Bool) (ks : List Place) → list_any test ks ≡ true → (k : Place) × (test k ≡ true) × (list_any (same_place k) ks ≡ true)
 witness test [] e = cc
 witness test (k ∷ ks) e =
     by_side (test k) (λ t. (k, t, ap (λ b. b || list_any (same_place k) ks) (same_itself k)))
@@ -72,17 +66,3 @@ module _ {X : Type 0} (m : Contents X) (b : Block) (test : Place → Bool) where
         (λ s. let no : is_some (finite.get m w.0) ≡ false = ap is_some (none w.0 (and_from (is_in_block b w.0) (is_from at w.0) both.0 s)) in absurd (both_ways (is_some (finite.get m w.0)) no there))
         (λ s. so w.0 both.0 s there)) both.1))
         (λ t. t))
-
--- and it is so where no cell of an array stands in the block
-pub none_of_arrays : (m : Contents Cell) (b : Block) (kind : Sought) → HasNoArray m b → false ≡ has_sought celled m kind b
-none_of_arrays m b kind none =
-    sym (by_side (has_sought celled m kind b)
-    (λ t.
-    let w = witness (λ p. is_in_block b p && is_sought kind b (array_at celled m p)) (finite.keys m) t in
-    let both = and_parts (is_in_block b w.0) (is_sought kind b (array_at celled m w.0)) w.1 in
-    absurd (both_ways (is_sought kind b (array_at celled m w.0)) (ap (λ a. is_sought kind b (option_and_then (array_of celled m) a)) (none w.0 both.0) ∙ of_none kind) both.1))
-    (λ t. t))
-  where
-    of_none : (k : Sought) → is_sought k b None ≡ false
-    of_none sought.Fixed = refl
-    of_none sought.Cut = refl

@@ -8,7 +8,7 @@ use Rattle.std.specs.Map.{lookup}
 use Rattle.std.specs.Cmp.{IsTotalOrder}
 use Rattle.std.specs.BTreeMap.Range.{IsEntryInRange, IsLeBy, IsRangeOf}
 use Rattle.std.specs.List.{slice_get}
-use Rattle.std.specs.Option.{IfNone, IfSome, option_and_then, option_map, unwrap_or}
+use Rattle.std.specs.Option.{IfNone, IfSome, option_map, unwrap_or}
 use Rattle.std.specs.declared.ops.Bound.TheVariants.{Included, Unbounded}
 use Rattle.std.specs.FinMap as finite
 use Rattle.std.specs.Prelude.{int_le, int_lt, ◌+ℤ◌, ◌≤ℤ◌, ◌<ℤ◌}
@@ -17,11 +17,9 @@ use Rattle.std.specs.declared.cmp.Ordering.{Ordering}
 use Rattle.std.specs.declared.cmp.Ordering.TheVariants.{Less, Equal, Greater}
 use Rattle.ic_cells.specs.Maps.{place_cmp}
 use Rattle.ic_cells.specs.declared.cell.Cell.{Cell}
-use Rattle.ic_grid.specs.Arrays.{anchor_at, anchor_of}
 use Rattle.ic_grid.specs.Block.{Place, is_between, is_in_block, is_in_span}
 use Rattle.ic_grid.specs.Contents.{Contents}
-use Rattle.ic_grid.specs.Shape.{Shape, Empty, Value, Formula, Anchor, SpillOf, celled, shape_of}
-use Rattle.ic_grid.specs.Walk.{HasNone, HasNoneIn, IsFirst, IsFirstIn, IsFirstPassing, IsPassed, IsSeen, NonePasses, NoneUpTo, is_from, is_left, is_of_array, is_wanted, row_behind, wanted_at}
+use Rattle.ic_grid.specs.Walk.{HasNone, HasNoneIn, IsFirst, IsFirstIn, IsFirstPassing, IsPassed, IsSeen, NonePasses, NoneUpTo, is_from, is_left, is_wanted, row_behind, wanted_at}
 use Rattle.ic_grid.specs.declared.block.Block.{Block}
 use Rattle.ic_grid.specs.declared.walk.Seen.{Seen}
 use Rattle.ic_grid.specs.declared.walk.Seen.TheVariants as seen
@@ -224,51 +222,37 @@ module _ (test : Place → Bool) (b : Block) (from : Place) where
         by_side (is_from at q)
         (λ t. f.first q (onward q left t) (skipped b p f.out (omega (arith, ints, from_row at p f.behind, top)) f.above next is q (inside q left) before)) (passed q left)
 
--- the first cell of all, and the first of an array
+-- the first cell of all
 module _ (m : Contents Cell) (b : Block) (from : Place) where
-  stands : (o : Option Cell) → unwrap_or (option_map (is_wanted wanted.Any) o) false ≡ true → IsSome o
-  stands None e = let never : false ≡ true = e in cc
-  stands (Some x) e = refl
+  stands : (q : Place) (o : Option Cell) → unwrap_or (option_map (is_wanted wanted.Any b q) o) false ≡ true → IsSome o
+  stands q None e = let never : false ≡ true = e in cc
+  stands q (Some x) e = refl
 
-  missing : (o : Option Cell) → unwrap_or (option_map (is_wanted wanted.Any) o) false ≡ false → o ≡ None
-  missing None e = refl
-  missing (Some x) e = let never : true ≡ false = e in cc
+  missing : (q : Place) (o : Option Cell) → unwrap_or (option_map (is_wanted wanted.Any b q) o) false ≡ false → o ≡ None
+  missing q None e = refl
+  missing q (Some x) e = let never : true ≡ false = e in cc
 
-  pub some_any : (r : Option Place) → IfSome r (IsFirstPassing (wanted_at wanted.Any (finite.get m)) b from) → IfSome r (IsFirstIn m b from)
+  pub some_any : (r : Option Place) → IfSome r (IsFirstPassing (wanted_at wanted.Any b (finite.get m)) b from) → IfSome r (IsFirstIn m b from)
   some_any None h = h
   some_any (Some p) h = record {
-    there = stands (finite.get m p) h.passes;
+    there = stands p (finite.get m p) h.passes;
     within = h.within;
     behind = h.behind;
-    first = λ q left before. missing (finite.get m q) (h.first q left before);
+    first = λ q left before. missing q (finite.get m q) (h.first q left before);
   }
 
-  pub none_any : (r : Option Place) → IfNone r (NonePasses (wanted_at wanted.Any (finite.get m)) b from) → IfNone r (HasNoneIn m b from)
-  none_any None h = λ q left. missing (finite.get m q) (h q left)
+  pub none_any : (r : Option Place) → IfNone r (NonePasses (wanted_at wanted.Any b (finite.get m)) b from) → IfNone r (HasNoneIn m b from)
+  none_any None h = λ q left. missing q (finite.get m q) (h q left)
   none_any (Some p) h = h
 
-  of_none : (o : Option Cell) (q : Place) → unwrap_or (option_map (is_wanted wanted.OfArray) o) false ≡ false → option_and_then (λ x. anchor_of q (shape_of x)) o ≡ None
-  of_none None q e = refl
-  of_none (Some x) q e = by_shape (shape_of x) e
-    where
-      by_shape : (s : Shape) → is_of_array s ≡ false → anchor_of q s ≡ None
-      by_shape Empty e = refl
-      by_shape Value e = refl
-      by_shape Formula e = refl
-      by_shape (Anchor width height kind) e = cc
-      by_shape (SpillOf a) e = cc
-
-  pub no_array : NonePasses (wanted_at wanted.OfArray (finite.get m)) b from → (q : Place) → is_left b from q ≡ true → anchor_at celled m q ≡ None
-  no_array none q left = of_none (finite.get m q) q (none q left)
-
 -- a look over an ordered map is one over the finite map
-pub seen_as : (f g : Place → Option Cell) (w : Wanted) (b : Block) (from : Place) (r : Seen) → ((q : Place) → f q ≡ g q) → IsSeen (wanted_at w f) b from r → IsSeen (wanted_at w g) b from r
+pub seen_as : (f g : Place → Option Cell) (w : Wanted) (b : Block) (from : Place) (r : Seen) → ((q : Place) → f q ≡ g q) → IsSeen (wanted_at w b f) b from r → IsSeen (wanted_at w b g) b from r
 seen_as f g w b from r e h = by_seen r h
   where
-    same : (q : Place) → wanted_at w g q ≡ wanted_at w f q
-    same q = ap (λ o. unwrap_or (option_map (is_wanted w) o) false) (sym (e q))
+    same : (q : Place) → wanted_at w b g q ≡ wanted_at w b f q
+    same q = ap (λ o. unwrap_or (option_map (is_wanted w b q) o) false) (sym (e q))
 
-    by_seen : (r : Seen) → IsSeen (wanted_at w f) b from r → IsSeen (wanted_at w g) b from r
+    by_seen : (r : Seen) → IsSeen (wanted_at w b f) b from r → IsSeen (wanted_at w b g) b from r
     by_seen (seen.Found p) h = record {
       passes = same p ∙ h.passes;
       within = h.within;

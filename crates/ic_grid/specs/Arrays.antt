@@ -5,7 +5,7 @@ use Rattle.std.specs.List.{list_any}
 use Rattle.ic_cells.specs.declared.cell.Cell.{Cell}
 use Rattle.ic_grid.specs.Block.{Place, block_at, blocks_meet, is_block_within, is_in_block, is_single}
 use Rattle.ic_grid.specs.Contents.{Contents}
-use Rattle.ic_grid.specs.Shape.{Holding, Shape, Anchor, SpillOf, celled, is_cse}
+use Rattle.ic_grid.specs.Shape.{Holding, Shape, Anchor, SpillOf, is_cse, shape_of}
 use Rattle.ic_grid.specs.declared.arrays.Sought.{Sought}
 use Rattle.ic_grid.specs.declared.arrays.Sought.TheVariants as sought
 use Rattle.ic_grid.specs.declared.block.Array.{Array}
@@ -75,6 +75,13 @@ module _ {X : Type 0} (h : Holding X) (m : Contents X) where
   abbrev pub has_sought : Sought → Block → Bool
   has_sought kind b = has_in b (is_sought kind b)
 
--- no place of a block belongs to an array
-abbrev pub HasNoArray : Contents Cell → Block → Type 0
-HasNoArray m b = (q : Place) → is_in_block b q ≡ true → anchor_at celled m q ≡ None
+-- what stands at a place tells of an array that has a cell outside of a block: it is a formula whose area isn't within the
+-- block, or a spill's cell whose formula stands outside
+abbrev pub is_crossing : Block → Place → Shape → Bool
+is_crossing b p (Anchor width height kind) = not (is_block_within (block_at p width height) b)
+is_crossing b p (SpillOf a) = not (is_in_block b a)
+is_crossing b p shape = false
+
+-- no cell of a block does
+abbrev pub HasNoCrossing : Contents Cell → Block → Type 0
+HasNoCrossing m b = (q : Place) (x : Cell) → is_in_block b q ≡ true → finite.get m q ≡ Some x → is_crossing b q (shape_of x) ≡ false

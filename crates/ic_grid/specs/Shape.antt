@@ -115,11 +115,6 @@ abbrev pub with_cell_area : ℤ → ℤ → Cell → Cell
 with_cell_area width height (cells.ArrayFormula kind f s r v) = cells.ArrayFormula kind f s (width, height) v
 with_cell_area width height cell = cell
 
--- the style and the anchor of a spill's cell
-abbrev pub spill_of : Option Cell → Option (ℕ × Place)
-spill_of (Some (cells.SpillCell s a v)) = Some (s, a)
-spill_of cell = None
-
 -- the index of the formula and the style of a formula with one value
 abbrev pub single_formula : Option Cell → Option (ℕ × ℕ)
 single_formula (Some (cells.CellFormula f s v)) = Some (f, s)

@@ -4,9 +4,10 @@ use Rattle.std.specs.FinMap as finite
 use Rattle.std.specs.Option.{unwrap_or}
 use Rattle.std.specs.Ordering.{int_eq}
 use Rattle.ic_cells.specs.declared.cell.Cell.{Cell}
+use Rattle.ic_grid.specs.Arrays.{is_crossing}
 use Rattle.ic_grid.specs.Block.{Place, is_in_block}
 use Rattle.ic_grid.specs.Contents.{Contents}
-use Rattle.ic_grid.specs.Shape.{Shape, Anchor, SpillOf, shape_of}
+use Rattle.ic_grid.specs.Shape.{shape_of}
 use Rattle.ic_grid.specs.declared.block.Block.{Block}
 use Rattle.ic_grid.specs.declared.walk.Seen.{Seen}
 use Rattle.ic_grid.specs.declared.walk.Seen.TheVariants as seen
@@ -48,23 +49,23 @@ module _ {X : Type 0} (m : Contents X) where
     pub behind : is_from from p ≡ true
     pub first : (q : Place) → is_left b from q ≡ true → is_from p q ≡ false → finite.get m q ≡ None
 
+  -- a place of a block, from another on, with nothing before it
+  pub record IsNextIn (b : Block) (from p : Place) : Type 0 where
+    pub within : is_in_block b p ≡ true
+    pub behind : is_from from p ≡ true
+    pub first : (q : Place) → is_left b from q ≡ true → is_from p q ≡ false → finite.get m q ≡ None
+
   abbrev pub HasNoneIn : Block → Place → Type 0
   HasNoneIn b from = (q : Place) → is_left b from q ≡ true → finite.get m q ≡ None
 
--- a cell of an array: its formula, or a cell of its spill
-abbrev pub is_of_array : Shape → Bool
-is_of_array (Anchor width height kind) = true
-is_of_array (SpillOf a) = true
-is_of_array shape = false
-
--- which cells a walk stops at: each, or those of arrays
-abbrev pub is_wanted : Wanted → Cell → Bool
-is_wanted wanted.Any x = true
-is_wanted wanted.OfArray x = is_of_array (shape_of x)
+-- which cells of a block a walk stops at: each, or those that tell of an array with a cell outside of the block
+abbrev pub is_wanted : Wanted → Block → Place → Cell → Bool
+is_wanted wanted.Any b p x = true
+is_wanted wanted.Crossing b p x = is_crossing b p (shape_of x)
 
 -- such a cell stands at a place
-abbrev pub wanted_at : Wanted → (Place → Option Cell) → Place → Bool
-wanted_at w get p = unwrap_or (option_map (is_wanted w) (get p)) false
+abbrev pub wanted_at : Wanted → Block → (Place → Option Cell) → Place → Bool
+wanted_at w b get p = unwrap_or (option_map (is_wanted w b p) (get p)) false
 
 module _ (test : Place → Bool) (b : Block) (from : Place) where
   -- no place of the block from this one on and before that one passes the test

@@ -1,7 +1,7 @@
 //! Which array a place belongs to.
 ghost use Rattle.std.specs.Prelude.{◌≡◌, option_and_then, true};
 ghost use Rattle.std.specs.FinMap as finite;
-ghost use Rattle.ic_grid.specs.Arrays.{anchor_at, anchor_of, array_at, array_of, has_sought, is_cut_by, is_fixed, is_sought};
+ghost use Rattle.ic_grid.specs.Arrays.{anchor_at, anchor_of, array_at, array_of, has_sought, is_crossing, is_cut_by, is_fixed, is_sought};
 ghost use Rattle.ic_grid.specs.Block.{is_area};
 ghost use Rattle.ic_grid.specs.Shape.{celled, shape_of};
 ghost use Rattle.ic_grid.specs.Value.{formula_array};
@@ -66,6 +66,18 @@ fn array_of_cell(cells: &PlaceMap<Cell>, place: (i32, i32), cell: &Cell) -> Opti
         Cell::ArrayFormula { .. } => array_of(cells, place),
         Cell::SpillCell { a, .. } => array_of(cells, *a),
         _ => None,
+    }
+}
+
+/// Whether a cell which is at a place tells of an array that has a cell outside of a block: an array formula whose area isn't
+/// within it, or a spill's cell whose formula stands outside.
+pub fn is_crossing(block: &Block, place: (i32, i32), cell: &Cell) -> bool
+    ensures { result ≡ is_crossing block.now place (shape_of cell.now) }
+{
+    match cell {
+        Cell::ArrayFormula { r, .. } => !Block::at(place, r.0, r.1).is_within(block),
+        Cell::SpillCell { a, .. } => !block.has(*a),
+        _ => false,
     }
 }
 

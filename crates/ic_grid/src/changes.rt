@@ -1,21 +1,22 @@
 //! Changes of cells that are there. They take no memory.
-ghost use Rattle.std.specs.Prelude.{◌≡◌, ◌≤ℤ◌, ◌<ℤ◌, ◌+ℤ◌, pos, true, false, IsSome, length, option_map};
+ghost use Rattle.std.specs.Prelude.{◌≡◌, ◌≤ℤ◌, ◌<ℤ◌, ◌+ℤ◌, pos, true, false, IfNone, IfSome, IsSome, length, option_map};
 ghost use Rattle.std.specs.FinMap as finite;
 ghost use Rattle.ic_grid.specs.Block.{first_place, has_next_column, is_area, is_in_block, is_in_lines, next_place, same_place};
 ghost use Rattle.ic_grid.specs.Change.{changed_at, changed_in, is_placeholder};
 ghost use Rattle.ic_grid.specs.declared.changes.Change.TheVariants as changes;
-ghost use Rattle.ic_grid.specs.Walk.{right_of};
+ghost use Rattle.ic_grid.specs.Walk.{HasNoneIn, IsNextIn, right_of};
 ghost use Rattle.ic_cells.specs.Cell.{style_of};
 ghost use Rattle.std.specs.Option.{unwrap_or};
 ghost use Rattle.ic_grid.specs.Contents.{changed_where};
 ghost use Rattle.ic_grid.specs.Prepare.{anchor_reset, unspilled};
 ghost use Rattle.ic_grid.specs.Rows.{IsFull, place_count, placed, style_or_zero};
-ghost use Rattle.ic_grid.specs.Shape.{celled, spill_of};
+ghost use Rattle.ic_grid.specs.Shape.{celled, emptied};
 
 use crate::Block;
 use crate::arrays::formula_array;
 use crate::block::is_same;
 use crate::walk::next_in;
+use crate::whole::is_spill_of;
 use ic_cells::{ArrayValue, Cell, PlaceMap};
 
 /// Puts a cell where one stands.
@@ -29,25 +30,30 @@ pub fn replace(cells: &mut PlaceMap<Cell>, place: (i32, i32), cell: Cell)
     }
 }
 
-/// The style and the anchor of the spill's cell at a place, if one stands there.
-fn spill_at(cells: &PlaceMap<Cell>, place: (i32, i32)) -> Option<(usize, (i32, i32))>
-    ensures { result ≡ spill_of (finite.get cells.now place) }
+/// Empties a cell.
+fn empty_cell(cell: &mut Cell)
+    ensures { cell.new ≡ emptied celled cell.old }
 {
-    match cells.get(place.0, place.1) {
-        Some(Cell::SpillCell { s, a, .. }) => Some((*s, *a)),
-        _ => None,
-    }
+    let s = cell.get_style();
+    *cell = Cell::EmptyCell { s };
 }
 
 /// Empties a cell, if it is one of the spill of the formula at a place.
+fn unspill_cell(cell: &mut Cell, anchor: (i32, i32))
+    ensures { cell.new ≡ unspilled celled anchor cell.old }
+{
+    if is_spill_of(cell, anchor) {
+        empty_cell(cell);
+    }
+}
+
+/// The same of the cell at a place, if one stands there.
 fn unspill(cells: &mut PlaceMap<Cell>, place: (i32, i32), anchor: (i32, i32))
     ensures { cells.new
         ≡ changed_where (λ q. same_place q place) (unspilled celled anchor) cells.old }
 {
-    if let Some((s, a)) = spill_at(cells, place) {
-        if is_same(anchor, a) {
-            replace(cells, place, Cell::EmptyCell { s });
-        }
+    if let Some(cell) = cells.get_mut(place.0, place.1) {
+        unspill_cell(cell, anchor);
     }
 }
 
@@ -131,37 +137,35 @@ pub fn style_or_zero(cells: &PlaceMap<Cell>, place: (i32, i32)) -> usize
 fn is_placeholder_at(cells: &PlaceMap<Cell>, place: (i32, i32)) -> bool
     ensures { result ≡ unwrap_or (option_map is_placeholder (finite.get cells.now place)) false }
 {
-    match spill_at(cells, place) {
-        Some((_, anchor)) => is_same((0, 0), anchor),
+    match cells.get(place.0, place.1) {
+        Some(cell) => is_spill_of(cell, (0, 0)),
         None => false,
     }
 }
 
-/// Takes away what stands at a place.
-fn remove(cells: &mut PlaceMap<Cell>, place: (i32, i32))
-    ensures { cells.new ≡ finite.remove cells.old place }
-{
-    cells.remove(place.0, place.1);
-}
-
-/// Takes the cell at a place away.
-fn take(cells: &mut PlaceMap<Cell>, place: (i32, i32))
+/// Takes the cell at a place away, and answers whether one stood there.
+fn take(cells: &mut PlaceMap<Cell>, place: (i32, i32)) -> bool
     ensures { cells.new ≡ changed_at place changes.Take cells.old }
 {
-    remove(cells, place);
+    let taken = cells.remove(place.0, place.1);
+    taken.is_some()
 }
 
-/// Empties the cell at a place.
-fn empty(cells: &mut PlaceMap<Cell>, place: (i32, i32))
+/// Empties the cell at a place, and answers whether one stands there.
+fn empty(cells: &mut PlaceMap<Cell>, place: (i32, i32)) -> bool
     ensures { cells.new ≡ changed_at place changes.Empty cells.old }
 {
-    if let Some(s) = style_there(cells, place) {
-        replace(cells, place, Cell::EmptyCell { s });
+    match cells.get_mut(place.0, place.1) {
+        Some(cell) => {
+            empty_cell(cell);
+            true
+        }
+        None => false,
     }
 }
 
-/// Changes the cell at a place.
-fn change_at(cells: &mut PlaceMap<Cell>, place: (i32, i32), change: Change)
+/// Changes the cell at a place, and answers whether it did.
+fn change_at(cells: &mut PlaceMap<Cell>, place: (i32, i32), change: Change) -> bool
     ensures { cells.new ≡ changed_at place change cells.old }
 {
     match change {
@@ -169,12 +173,16 @@ fn change_at(cells: &mut PlaceMap<Cell>, place: (i32, i32), change: Change)
         Change::Empty => empty(cells, place),
         Change::TakePlaceholder => {
             if is_placeholder_at(cells, place) {
-                take(cells, place);
+                take(cells, place)
+            } else {
+                false
             }
         }
         Change::EmptyPlaceholder => {
             if is_placeholder_at(cells, place) {
-                empty(cells, place);
+                empty(cells, place)
+            } else {
+                false
             }
         }
     }
@@ -188,15 +196,31 @@ pub fn right_of(place: (i32, i32)) -> (i32, i32)
     (place.0, place.1 + 1)
 }
 
-/// Changes each cell of a block. It looks at the cells that are there alone.
+/// The next place of a block to be changed, from one on: that place itself where `close` says that a cell stood right before
+/// it, since cells mostly stand close, and else the first at which a cell stands.
+fn next_of(cells: &PlaceMap<Cell>, block: &Block, at: (i32, i32), close: bool) -> Option<(i32, i32)>
+    requires area { is_area block.now ≡ true }
+    requires row { block.now.row ≤ℤ at.0 }
+    requires column { block.now.column ≤ℤ at.1 }
+    ensures some { IfSome result (IsNextIn cells.now block.now at) }
+    ensures none { IfNone result (HasNoneIn cells.now block.now at) }
+{
+    if close && block.has(at) {
+        return Some(at);
+    }
+    next_in(cells, block, at)
+}
+
+/// Changes each cell of a block. It looks at the cells that are there, and at one place behind each run of them.
 pub fn change_block(cells: &mut PlaceMap<Cell>, block: &Block, change: Change)
     requires { is_area block.now ≡ true }
     ensures { cells.new ≡ changed_in block.now change cells.old }
 {
     let mut at = block.first();
-    while let Some(place) = next_in(cells, block, at) {
-        change_at(cells, place, change);
-        at = right_of(place);
+    let mut close = true;
+    while let Some(place) = next_of(cells, block, at, close) {
+        close = change_at(cells, place, change) && is_same(place, at);
+        at = next_place(block, place);
     }
 }
 

@@ -1,18 +1,17 @@
 //! Clearing.
 ghost use Rattle.std.specs.Prelude.{◌≡◌, true, false, OnErr, OnOk};
-ghost use Rattle.ic_grid.specs.Arrays.{HasNoArray, has_cut};
+ghost use Rattle.ic_grid.specs.Arrays.{HasNoCrossing, has_cut};
 ghost use Rattle.ic_grid.specs.Block.{block_at, is_area};
 ghost use Rattle.ic_grid.specs.Calls.{can_clear};
 ghost use Rattle.ic_grid.specs.Clear.{cleared, wiping};
 ghost use Rattle.ic_grid.specs.Conditions.{AreArrays, AreInSheet};
-ghost use Rattle.ic_grid.specs.Prepare.{loosened_in};
 ghost use Rattle.ic_grid.specs.Shape.{celled};
 ghost use Rattle.ic_grid.specs.Whole.{IsGrid};
 
 use crate::arrays::{Sought, has_sought};
 use crate::changes::{Change, change_block};
 use crate::prepare::prepare_block;
-use crate::walk::has_array;
+use crate::walk::has_crossing;
 use crate::{Block, Grid, GridError};
 use ic_cells::{Cell, PlaceMap};
 
@@ -23,42 +22,52 @@ fn wiping(all: bool) -> Change
     if all { Change::Take } else { Change::Empty }
 }
 
-/// Whether a Cse array of more than one cell lies partly in a block, given whether some cell of an array stands in it.
-fn has_cut(cells: &PlaceMap<Cell>, block: &Block, arrays: bool) -> bool
+/// Whether a Cse array of more than one cell lies partly in a block, given whether an array crosses its edge.
+fn has_cut(cells: &PlaceMap<Cell>, block: &Block, crossing: bool) -> bool
     requires area { is_area block.now ≡ true }
-    requires none { arrays ≡ false → HasNoArray cells.now block.now }
+    requires none { crossing ≡ false → HasNoCrossing cells.now block.now }
     ensures { result ≡ has_cut celled cells.now block.now }
 {
-    if !arrays {
+    if !crossing {
         return false;
     }
     has_sought(Sought::Cut, cells, block)
 }
 
-/// Releases each array with a cell in a block, given whether one stands in it.
-fn release_arrays(cells: &mut PlaceMap<Cell>, block: &Block, arrays: bool)
+/// Clears a block: each array with a cell in it is released, and its cells are emptied, or all taken away.
+fn clear_released(cells: &mut PlaceMap<Cell>, block: &Block, all: bool)
     requires area { is_area block.now ≡ true }
     requires inside { AreInSheet celled cells.old }
     requires arrays { AreArrays celled cells.old }
-    requires none { arrays ≡ false → HasNoArray cells.old block.now }
-    ensures { cells.new ≡ loosened_in celled block.now cells.old }
-{
-    if arrays {
-        prepare_block(cells, block);
-    }
-}
-
-/// Clears a block, given whether some cell of an array stands in it: each array with a cell in it is released, and its cells
-/// are emptied, or all taken away.
-fn clear_block(cells: &mut PlaceMap<Cell>, block: &Block, all: bool, arrays: bool)
-    requires area { is_area block.now ≡ true }
-    requires inside { AreInSheet celled cells.old }
-    requires arrays { AreArrays celled cells.old }
-    requires none { arrays ≡ false → HasNoArray cells.old block.now }
     ensures { cells.new ≡ cleared celled block.now all cells.old }
 {
-    release_arrays(cells, block, arrays);
+    prepare_block(cells, block);
     change_block(cells, block, wiping(all));
+}
+
+/// Clears a block whose edge no array crosses: nothing outside changes, and an array in it is gone with its cells.
+fn clear_inside(cells: &mut PlaceMap<Cell>, block: &Block, all: bool)
+    requires area { is_area block.now ≡ true }
+    requires arrays { AreArrays celled cells.old }
+    requires none { HasNoCrossing cells.old block.now }
+    ensures { cells.new ≡ cleared celled block.now all cells.old }
+{
+    change_block(cells, block, wiping(all));
+}
+
+/// Clears a block, given whether an array crosses its edge.
+fn clear_block(cells: &mut PlaceMap<Cell>, block: &Block, all: bool, crossing: bool)
+    requires area { is_area block.now ≡ true }
+    requires inside { AreInSheet celled cells.old }
+    requires arrays { AreArrays celled cells.old }
+    requires none { crossing ≡ false → HasNoCrossing cells.old block.now }
+    ensures { cells.new ≡ cleared celled block.now all cells.old }
+{
+    if crossing {
+        clear_released(cells, block, all);
+    } else {
+        clear_inside(cells, block, all);
+    }
 }
 
 impl Grid {
@@ -86,11 +95,11 @@ impl Grid {
         ensures whole { IsGrid self.new }
     {
         let block = Block::at((row, column), width, height);
-        let arrays = has_array(&self.cells, &block);
-        if has_cut(&self.cells, &block, arrays) {
+        let crossing = has_crossing(&self.cells, &block);
+        if has_cut(&self.cells, &block, crossing) {
             return Err(GridError::ClearArray);
         }
-        clear_block(&mut self.cells, &block, all, arrays);
+        clear_block(&mut self.cells, &block, all, crossing);
         Ok(())
     }
 }

@@ -3,11 +3,12 @@ ghost use Rattle.std.specs.Prelude.{◌≡◌, ◌≤ℤ◌, ◌<ℤ◌, ◌&&�
 ghost use Rattle.std.specs.BTreeMap as tree;
 ghost use Rattle.std.specs.FinMap as finite;
 ghost use Rattle.ic_cells.specs.Maps.{place_cmp};
-ghost use Rattle.ic_grid.specs.Arrays.{HasNoArray};
+ghost use Rattle.ic_grid.specs.Arrays.{HasNoCrossing};
 ghost use Rattle.ic_grid.specs.Block.{is_area, is_in_block};
 ghost use Rattle.ic_grid.specs.Walk.{HasNone, HasNoneIn, IsFirst, IsFirstIn, IsFirstPassing, IsSeen, NonePasses, is_wanted, row_behind, wanted_at};
 
 use crate::Block;
+use crate::arrays::is_crossing;
 use ic_cells::{Cell, PlaceMap};
 use std::collections::BTreeMap;
 
@@ -43,30 +44,30 @@ fn row_behind(block: &Block, place: (i32, i32)) -> (i32, i32)
     }
 }
 
-/// Which cells a walk stops at.
+/// Which cells of a block a walk stops at.
 #[derive(Clone, Copy)]
 pub enum Wanted {
     /// Each cell.
     Any,
-    /// Those that belong to an array.
-    OfArray,
+    /// Those that tell of an array with a cell outside of the block.
+    Crossing,
 }
 
-/// Whether a walk stops at a cell.
-fn is_wanted(wanted: Wanted, cell: &Cell) -> bool
-    ensures { result ≡ is_wanted wanted cell.now }
+/// Whether a walk over a block stops at a cell which is at a place of it.
+fn is_wanted(wanted: Wanted, block: &Block, place: (i32, i32), cell: &Cell) -> bool
+    ensures { result ≡ is_wanted wanted block.now place cell.now }
 {
     match wanted {
         Wanted::Any => true,
-        Wanted::OfArray => matches!(cell, Cell::ArrayFormula { .. } | Cell::SpillCell { .. }),
+        Wanted::Crossing => is_crossing(block, place, cell),
     }
 }
 
 /// Whether a walk over a block stops at a place with a cell.
 fn stops_at(wanted: Wanted, block: &Block, place: (i32, i32), cell: &Cell) -> bool
-    ensures { result ≡ is_in_block block.now place && is_wanted wanted cell.now }
+    ensures { result ≡ is_in_block block.now place && is_wanted wanted block.now place cell.now }
 {
-    block.has(place) && is_wanted(wanted, cell)
+    block.has(place) && is_wanted(wanted, block, place, cell)
 }
 
 /// How many cells of a row beside a block are passed before the next row is searched.
@@ -121,7 +122,8 @@ fn look_on(
     wanted: Wanted,
 ) -> Seen
     requires { is_area block.now ≡ true }
-    ensures { IsSeen (wanted_at wanted (tree.get place_cmp map.now)) block.now from result }
+    ensures { IsSeen (wanted_at wanted block.now (tree.get place_cmp map.now)) block.now from
+        result }
 {
     let last_row = block.row + block.height;
     let mut pace = Pace {
@@ -146,7 +148,7 @@ fn look_on(
 /// How far it comes over the cells of a sheet.
 fn look_in(cells: &PlaceMap<Cell>, block: &Block, from: (i32, i32), wanted: Wanted) -> Seen
     requires { is_area block.now ≡ true }
-    ensures { IsSeen (wanted_at wanted (finite.get cells.now)) block.now from result }
+    ensures { IsSeen (wanted_at wanted block.now (finite.get cells.now)) block.now from result }
 {
     look_on(cells.as_map(), block, from, wanted)
 }
@@ -163,9 +165,9 @@ fn next_wanted(
     requires row { block.now.row ≤ℤ from.0 }
     requires column { block.now.column ≤ℤ from.1 }
     ensures some { IfSome result
-        (IsFirstPassing (wanted_at wanted (finite.get cells.now)) block.now from) }
+        (IsFirstPassing (wanted_at wanted block.now (finite.get cells.now)) block.now from) }
     ensures none { IfNone result
-        (NonePasses (wanted_at wanted (finite.get cells.now)) block.now from) }
+        (NonePasses (wanted_at wanted block.now (finite.get cells.now)) block.now from) }
 {
     let last_row = block.row + block.height;
     let mut at = from;
@@ -196,12 +198,12 @@ pub fn next_in(cells: &PlaceMap<Cell>, block: &Block, from: (i32, i32)) -> Optio
     next_wanted(cells, block, from, Wanted::Any)
 }
 
-/// Whether a cell of an array stands in a block.
-pub fn has_array(cells: &PlaceMap<Cell>, block: &Block) -> bool
+/// Whether a cell of a block tells of an array that has a cell outside of it. It steps over the cells once.
+pub fn has_crossing(cells: &PlaceMap<Cell>, block: &Block) -> bool
     requires { is_area block.now ≡ true }
-    ensures { result ≡ false → HasNoArray cells.now block.now }
+    ensures { result ≡ false → HasNoCrossing cells.now block.now }
 {
-    match next_wanted(cells, block, block.first(), Wanted::OfArray) {
+    match next_wanted(cells, block, block.first(), Wanted::Crossing) {
         Some(_) => true,
         None => false,
     }

@@ -19,7 +19,7 @@ use ic_cells::{Cell, PlaceMap};
 use std::collections::BTreeMap;
 
 /// Whether a cell is one of the spill of the formula at a place.
-fn is_spill_of(cell: &Cell, anchor: (i32, i32)) -> bool
+pub fn is_spill_of(cell: &Cell, anchor: (i32, i32)) -> bool
     ensures { result ≡ is_spill_of anchor (shape_of cell.now) }
 {
     match cell {

@@ -1,7 +1,7 @@
 use Rattle.std.proofs.Common.{arith}
 use Rattle.std.proofs.lemmas.Int.{ints}
 use Rattle.ic_grid.proofs.BlockLemmas.{area_bounds}
-use Rattle.ic_grid.proofs.ChangeLemmas.{first_bounds, step_bounds, walk_begun_at, walk_done, walk_more_at, nearer_at}
+use Rattle.ic_grid.proofs.ChangeLemmas.{first_bounds, next_bounds, next_nearer_at, walk_begun_at, walk_done, walk_more_at}
 use Rattle.ic_grid.proofs.WalkLemmas.{in_block}
 use Rattle.ic_grid.specs.Change.{changed}
 use Rattle.ic_grid.proofs.changes.change_block.Goals as goal
@@ -15,23 +15,29 @@ loop-place-init c =
       done = walk_begun_at c.args.cells.now c.args.block.now (changed c.args.change) c.first-at.result first;
     }
 
-pub right_of-at-requires : goal.right_of-at-requires
-right_of-at-requires c =
+pub next_place-at-requires-clause-row : goal.next_place-at-requires-clause-row
+next_place-at-requires-clause-row c =
+    let b = area_bounds c.args.block.now c.requires in
+    let i = in_block c.args.block.now c.in-Some.place c.in-Some.ensures.some.within in
+    omega (arith, ints, b.last_row, i.bottom)
+
+pub next_place-at-requires-clause-column : goal.next_place-at-requires-clause-column
+next_place-at-requires-clause-column c =
     let b = area_bounds c.args.block.now c.requires in
     let i = in_block c.args.block.now c.in-Some.place c.in-Some.ensures.some.within in
     omega (arith, ints, b.last_column, i.right)
 
 pub loop-place-smaller : goal.loop-place-smaller
 loop-place-smaller c =
-    nearer_at c.args.block.now c.loop-place.at c.in-Some.place c.requires c.loop-place.invariant.column c.in-Some.ensures.some.behind c.in-Some.ensures.some.within c.right_of-at.result c.right_of-at.ensures
+    next_nearer_at c.args.block.now c.loop-place.at c.in-Some.place c.requires c.loop-place.invariant.column c.in-Some.ensures.some.behind c.in-Some.ensures.some.within c.next_place-at.result c.next_place-at.ensures
 
 pub loop-place-preserved : goal.loop-place-preserved
 loop-place-preserved c =
-    let to = step_bounds c.args.block.now c.in-Some.place c.in-Some.ensures.some.within c.right_of-at.result c.right_of-at.ensures in
+    let to = next_bounds c.args.block.now c.in-Some.place c.in-Some.ensures.some.within c.next_place-at.result c.next_place-at.ensures in
     record {
       row = to.0;
       column = to.1;
-      done = walk_more_at c.args.cells.now c.args.block.now (changed c.args.change) c.loop-place.at c.loop-place.cells c.loop-place.invariant.done c.in-Some.place c.in-Some.ensures.some c.change_at.new.cells c.change_at.ensures c.right_of-at.result c.right_of-at.ensures;
+      done = walk_more_at c.args.cells.now c.args.block.now (changed c.args.change) c.loop-place.at c.loop-place.cells c.loop-place.invariant.done c.in-Some.place c.in-Some.ensures.some c.change_at.new.cells c.change_at.ensures c.next_place-at.result c.next_place-at.ensures;
     }
 
 pub returns : goal.returns

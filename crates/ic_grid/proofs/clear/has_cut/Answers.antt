@@ -1,6 +1,5 @@
-use Rattle.ic_grid.proofs.SoughtLemmas.{none_of_arrays}
-use Rattle.ic_grid.specs.declared.arrays.Sought.TheVariants as sought
+use Rattle.ic_grid.proofs.CrossLemmas.{none_cut}
 use Rattle.ic_grid.proofs.clear.has_cut.Goals as goal
 
-pub returns-then-not-arrays : goal.returns-then-not-arrays
-returns-then-not-arrays c = none_of_arrays c.args.cells.now c.args.block.now sought.Cut (c.requires.none c.if-not-arrays.true)
+pub returns-then-not-crossing : goal.returns-then-not-crossing
+returns-then-not-crossing c = none_cut c.args.cells.now c.args.block.now (c.requires.none c.if-not-crossing.true)

@@ -21,11 +21,11 @@ loop-turn-init c = record {
 
 pub returns-in-Found-clause-some : goal.returns-in-Found-clause-some
 returns-in-Found-clause-some c =
-    found (wanted_at c.args.wanted (finite.get c.args.cells.now)) c.args.block.now c.args.from c.loop-turn.at c.loop-turn.invariant.passed c.loop-turn.invariant.behind c.in-Found.place c.in-Found.ensures
+    found (wanted_at c.args.wanted c.args.block.now (finite.get c.args.cells.now)) c.args.block.now c.args.from c.loop-turn.at c.loop-turn.invariant.passed c.loop-turn.invariant.behind c.in-Found.place c.in-Found.ensures
 
 pub returns-in-End-clause-none : goal.returns-in-End-clause-none
 returns-in-End-clause-none c =
-    none_left (wanted_at c.args.wanted (finite.get c.args.cells.now)) c.args.block.now c.args.from c.loop-turn.at c.loop-turn.invariant.passed c.in-End.ensures
+    none_left (wanted_at c.args.wanted c.args.block.now (finite.get c.args.cells.now)) c.args.block.now c.args.from c.loop-turn.at c.loop-turn.invariant.passed c.in-End.ensures
 
 pub loop-turn-preserved : goal.loop-turn-preserved
 loop-turn-preserved c =
@@ -37,13 +37,13 @@ loop-turn-preserved c =
       turn = omega (arith, ints, more, c.loop-turn.invariant.turn);
       behind = from_far c.args.from c.loop-turn.at c.row_behind-at.result c.loop-turn.invariant.behind (next_from c.args.block.now c.in-Passed.place c.loop-turn.at f.behind c.loop-turn.invariant.least c.row_behind-at.result c.row_behind-at.ensures);
       least = next_column c.args.block.now c.in-Passed.place c.row_behind-at.result c.row_behind-at.ensures;
-      passed = passed_more (wanted_at c.args.wanted (finite.get c.args.cells.now)) c.args.block.now c.args.from c.loop-turn.at c.loop-turn.invariant.passed c.in-Passed.place f c.loop-turn.invariant.top c.row_behind-at.result c.row_behind-at.ensures;
+      passed = passed_more (wanted_at c.args.wanted c.args.block.now (finite.get c.args.cells.now)) c.args.block.now c.args.from c.loop-turn.at c.loop-turn.invariant.passed c.in-Passed.place f c.loop-turn.invariant.top c.row_behind-at.result c.row_behind-at.ensures;
     }
 
 pub returns-clause-none : goal.returns-clause-none
 returns-clause-none c =
     let b = area_bounds c.args.block.now c.requires.area in
-    done (wanted_at c.args.wanted (finite.get c.args.cells.now)) c.args.block.now c.args.from c.loop-turn.at c.loop-turn.invariant.passed (omega (arith, ints, c.loop-turn.invariant.turn, c.loop-turn-test.false))
+    done (wanted_at c.args.wanted c.args.block.now (finite.get c.args.cells.now)) c.args.block.now c.args.from c.loop-turn.at c.loop-turn.invariant.passed (omega (arith, ints, c.loop-turn.invariant.turn, c.loop-turn-test.false))
 
 pub row_behind-at-requires : goal.row_behind-at-requires
 row_behind-at-requires c =

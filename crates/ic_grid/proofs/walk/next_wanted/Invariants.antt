@@ -10,5 +10,5 @@ invariant-loop-turn l = record {
   turn : l.turn ≤ℤ l.at.0;
   behind : is_from l.fn.from l.at ≡ true;
   least : l.block.column ≤ℤ l.at.1;
-  passed : NoneUpTo (wanted_at l.wanted (finite.get l.cells)) l.block l.fn.from l.at;
+  passed : NoneUpTo (wanted_at l.wanted l.block (finite.get l.cells)) l.block l.fn.from l.at;
 }
