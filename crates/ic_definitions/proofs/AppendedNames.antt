@@ -100,7 +100,7 @@ place_taken q (suc n) (d ∷ ds) = ap (λ place. cond (same_key (key_in d) q) (S
         later false = refl
 
 module _ {X : Type 0} where
-  all_taken : (P : X → Type 0) (n : ℕ) (xs : List X) → AllByRecursion P xs → AllByRecursion P (take n xs)
+  pub all_taken : (P : X → Type 0) (n : ℕ) (xs : List X) → AllByRecursion P xs → AllByRecursion P (take n xs)
   all_taken P zero xs h = tt
   all_taken P (suc n) [] h = tt
   all_taken P (suc n) (x ∷ xs) h = (h.0, all_taken P n xs h.1)

@@ -3,7 +3,9 @@ pub mod BodyLemmas
 pub mod FindingLemmas
 pub mod GoneDefinitions
 pub mod HeldKeys
+pub mod MentionedBodies
 pub mod NamedLemmas
 pub mod NamesFacts
 pub mod RenamedLemmas
 pub mod ReplacedNames
+pub mod ScopeLemmas

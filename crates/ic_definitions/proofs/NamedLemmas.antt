@@ -47,7 +47,7 @@ same_place (x ∷ xs) (y ∷ ys) e key =
     let others : keys xs ≡ keys ys = cc in
     ap₂ (λ k place. cond (same_key k key) (Some 0) (option_map suc place)) first (same_place xs ys others key)
 
-same_scopes : (xs ys : List Definition) → keys xs ≡ keys ys → scopes_of xs ≡ scopes_of ys
+pub same_scopes : (xs ys : List Definition) → keys xs ≡ keys ys → scopes_of xs ≡ scopes_of ys
 same_scopes [] [] e = refl
 same_scopes [] (y ∷ ys) e = cc
 same_scopes (x ∷ xs) [] e = cc
@@ -188,7 +188,7 @@ place_removed (x ∷ ds) (suc index) d lt read differ q =
     step false true place h = refl
     step false false place h = sym (lowered_later index place)
 
-keys_removed : (ds others list : List Definition) (index : ℕ) → keys others ≡ keys ds → list ≡ remove others index → keys list ≡ remove (keys ds) index
+pub keys_removed : (ds others list : List Definition) (index : ℕ) → keys others ≡ keys ds → list ≡ remove others index → keys list ≡ remove (keys ds) index
 keys_removed ds others list index same removed = ap keys removed ∙ removed_seen key_in others index ∙ ap (λ ks. remove ks index) same
 
 -- from among others, which may have got other bodies

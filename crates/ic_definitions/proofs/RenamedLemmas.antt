@@ -24,14 +24,23 @@ key_with_name scene folded scope = step (definition_at scene folded scope) refl
     step None e = refl
     step (Some d) e = ap (λ k. Some k) (same_key_from (key_of d) (key_at folded scope) (found_passes (λ x. same_key (key_of x) (key_at folded scope)) scene.names d e))
 
-pub key_named : {X : Type 0} (chars_of : X → List ℕ) (scene : Scene) (folded : List ℕ) (scope : Option ℕ) (key : NameKey) (name : Option X) → key ≡ key_at folded scope → option_map chars_of name ≡ name_of_key scene key → is_some name ≡ true
-    → Some key ≡ option_map key_of (definition_at scene folded scope)
-key_named {X} chars_of scene folded scope key name is named some =
+-- whether there is a name tells whether it is found
+its_key : {X : Type 0} (chars_of : X → List ℕ) (scene : Scene) (folded : List ℕ) (scope : Option ℕ) (key : NameKey) (name : Option X) (b : Bool) → key ≡ key_at folded scope → option_map chars_of name ≡ name_of_key scene key → is_some name ≡ b
+    → cond b (Some key) None ≡ option_map key_of (definition_at scene folded scope)
+its_key {X} chars_of scene folded scope key name b is named some =
     sym (key_with_name scene folded scope ∙ ap₂ (λ t k. cond t (Some k) None) (ap (λ k. is_some (name_of_key scene k)) (sym is) ∙ ap is_some (sym named) ∙ seen name ∙ some) (sym is))
   where
     seen : (o : Option X) → is_some (option_map chars_of o) ≡ is_some o
     seen None = refl
     seen (Some x) = refl
+
+pub key_named : {X : Type 0} (chars_of : X → List ℕ) (scene : Scene) (folded : List ℕ) (scope : Option ℕ) (key : NameKey) (name : Option X) → key ≡ key_at folded scope → option_map chars_of name ≡ name_of_key scene key → is_some name ≡ true
+    → Some key ≡ option_map key_of (definition_at scene folded scope)
+key_named chars_of scene folded scope key name is named some = its_key chars_of scene folded scope key name true is named some
+
+pub key_unnamed : {X : Type 0} (chars_of : X → List ℕ) (scene : Scene) (folded : List ℕ) (scope : Option ℕ) (key : NameKey) (name : Option X) → key ≡ key_at folded scope → option_map chars_of name ≡ name_of_key scene key → is_some name ≡ false
+    → None ≡ option_map key_of (definition_at scene folded scope)
+key_unnamed chars_of scene folded scope key name is named none = its_key chars_of scene folded scope key name false is named none
 
 module _ (key : NameKey) where
   abbrev passes : NameSpelling → Bool

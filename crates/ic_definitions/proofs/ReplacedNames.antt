@@ -54,10 +54,10 @@ replaced_at [] index new = refl
 replaced_at (x ∷ ds) zero new = refl
 replaced_at (x ∷ ds) (suc index) new = ap (λ rest. x ∷ rest) (replaced_at ds index new)
 
-keys_updated : (new : Definition) (index : ℕ) (ds : List Definition) → keys (updated_at (λ x. new) index ds) ≡ updated_at (λ k. key_in new) index (keys ds)
+pub keys_updated : (new : Definition) (index : ℕ) (ds : List Definition) → keys (updated_at (λ x. new) index ds) ≡ updated_at (λ k. key_in new) index (keys ds)
 keys_updated new index ds = updated_seen key_in (λ x. new) (λ k. key_in new) (λ x. refl) index ds
 
-keys_replaced : (new : Definition) (index : ℕ) (ds others list : List Definition) → keys others ≡ keys ds → list ≡ updated_at (λ x. new) index others → keys list ≡ updated_at (λ k. key_in new) index (keys ds)
+pub keys_replaced : (new : Definition) (index : ℕ) (ds others list : List Definition) → keys others ≡ keys ds → list ≡ updated_at (λ x. new) index others → keys list ≡ updated_at (λ k. key_in new) index (keys ds)
 keys_replaced new index ds others list same is = ap keys is ∙ keys_updated new index others ∙ ap (updated_at (λ k. key_in new) index) same
 
 -- among others, which may have got other bodies

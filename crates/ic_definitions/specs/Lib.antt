@@ -1,3 +1,4 @@
 pub mod Bodies
+pub mod Mentioned
 pub mod Named
 pub mod Remade

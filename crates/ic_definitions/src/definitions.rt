@@ -6,8 +6,10 @@ ghost use Rattle.ic_definitions.specs.Named.{key_in, scopes_of};
 
 mod changes;
 mod named;
+mod preparing;
 
 use crate::Definition;
+use crate::mentioned::Mentioned;
 pub use named::NamedDefinitions;
 use std::alloc::Global;
 use std::marker::Model;
@@ -21,6 +23,8 @@ pub struct Definitions {
     greatest: u32,
     /// Where it is false, all that the bodies mention was found.
     may_dangle: bool,
+    /// What the bodies mention.
+    mentioned: Mentioned,
 }
 
 impl Drop for Definitions {
@@ -30,9 +34,11 @@ impl Drop for Definitions {
             list,
             greatest: _,
             may_dangle: _,
+            mentioned,
         } = self;
         drop(alloc);
         drop(list);
+        drop(mentioned);
     }
 }
 
@@ -40,6 +46,7 @@ impl Model for Definitions {
     ghost use Rattle.std.specs.Prelude.{List};
     ghost use Rattle.std.specs.Coded.{codes};
     ghost use Rattle.ic_laws.specs.CoreBook as core;
+    ghost use Rattle.ic_definitions.specs.Mentioned.{KnowsBodies};
     ghost use Rattle.ic_definitions.specs.Named.{AreNamed};
     ghost use Rattle.ic_definitions.specs.contracts.definition.Definition as definition;
 
@@ -49,7 +56,7 @@ impl Model for Definitions {
 
     ghost view = { λ d. d.list.items };
 
-    ghost invariant = { λ d. AreNamed d.greatest d.may_dangle d.list.items };
+    ghost invariant = { λ d. AreNamed d.greatest d.may_dangle d.list.items × KnowsBodies d.mentioned d.list.items };
 }
 
 impl Definitions {
@@ -62,6 +69,7 @@ impl Definitions {
             list: Vec::new(alloc),
             greatest: 0,
             may_dangle: false,
+            mentioned: Mentioned::new(alloc),
         }
     }
 

@@ -1,8 +1,8 @@
 //! What would be found among other definitions than those of the book, which needn't be made for that.
-ghost use Rattle.std.specs.Prelude.{◌≡◌, ◌&&◌, ◌++◌, IfOk, chars, length, nat_lt, not, option_map, slice_get};
+ghost use Rattle.std.specs.Prelude.{◌≡◌, ◌&&◌, ◌++◌, IfOk, None, chars, length, nat_lt, not, option_map, slice_get};
 ghost use Rattle.std.specs.Option.{option_and_then};
 ghost use Rattle.ic_laws.specs.Name.{fold};
-ghost use Rattle.ic_laws.specs.Scene.{definition_at, key_of, name_of_key, same_key};
+ghost use Rattle.ic_laws.specs.Scene.{definition_at, found_name, key_of, name_of_key, same_key};
 ghost use Rattle.ic_definitions.specs.Named.{definitions_scene, is_before, is_there, renamed_scene};
 
 use crate::definition::{fold_name, key_with};
@@ -109,21 +109,26 @@ impl<'d> UpdatedDefinitions<'d> {
         }
     }
 
-    /// The key of the definition of an agreeing name that is local to the sheet with this id, or to none.
-    fn key_at(
+    /// The key of the definition that a word means in a formula whose words are looked up from the sheet with this id, or
+    /// from none: the local one, else the one that is local to none. The word is folded once.
+    fn find(
         &self,
         alloc: Global,
         scope: Option<u32>,
         word: &str,
     ) -> Result<Option<NameKey>, OutOfMemory>
-        ensures { IfOk result (λ key. key ≡ option_map key_of (definition_at
+        ensures { IfOk result (λ key. key ≡ found_name
             (renamed_scene self.now.index (chars self.now.name.now)
             self.now.key.now.scope self.now.definitions.definitions.now)
-            (fold (chars word.now)) scope)) }
+            scope (chars word.now)) }
     {
-        let key = key_with(fold_name(alloc, word)?, scope);
-        if self.name_of(&key).is_some() {
-            return Ok(Some(key));
+        let local = key_with(fold_name(alloc, word)?, scope);
+        if self.name_of(&local).is_some() {
+            return Ok(Some(local));
+        }
+        let global = for_all_sheets(local);
+        if self.name_of(&global).is_some() {
+            return Ok(Some(global));
         }
         Ok(None)
     }
@@ -172,10 +177,7 @@ impl<'d> Finder for UpdatedDefinitions<'d> {
         scope: Option<u32>,
         word: &str,
     ) -> Result<Option<NameKey>, OutOfMemory> {
-        match self.key_at(alloc, scope, word)? {
-            Some(key) => Ok(Some(key)),
-            None => self.key_at(alloc, None, word),
-        }
+        self.find(alloc, scope, word)
     }
 
     fn sheet_spelling(&self, _id: u32) -> Option<&str> {
@@ -184,6 +186,16 @@ impl<'d> Finder for UpdatedDefinitions<'d> {
 
     fn name_spelling(&self, key: &NameKey) -> Option<&str> {
         self.name_of(key)
+    }
+}
+
+/// A key of the same name that is local to no sheet.
+fn for_all_sheets(key: NameKey) -> NameKey
+    ensures { result ≡ record { name = key.name; scope = None } }
+{
+    NameKey {
+        name: key.name,
+        scope: None,
     }
 }
 

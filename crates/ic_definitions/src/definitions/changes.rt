@@ -1,64 +1,25 @@
 //! Definitions come and go, and what their bodies mention changes.
-ghost use Rattle.std.specs.Prelude.{◌≡◌, ◌<◌, ◌++◌, ℕ, [], ◌∷◌, IfOk, None, OnErr, OnOk, Some, cond, false, length, map, option_map, option_to_list, remove, take};
+ghost use Rattle.std.specs.Prelude.{◌≡◌, ◌<◌, ◌≤◌, ◌++◌, [], ◌∷◌, IfOk, IfSome, None, OnErr, OnOk, Some, cond, false, length, map, max, option_map, option_to_list, remove, take};
 ghost use Rattle.std.specs.List.{AllByRecursion, IsDistinct, list_any, slice_get};
-ghost use Rattle.ic_laws.specs.Binding.{name_or_dangling};
 ghost use Rattle.ic_laws.specs.BookTrees.{with_body_tree};
 ghost use Rattle.ic_laws.specs.Changes.{changed_tree, definition_added, definition_gone};
 ghost use Rattle.ic_laws.specs.CoreBook as core;
 ghost use Rattle.ic_laws.specs.CoreStep.{is_named, updated_at};
 ghost use Rattle.ic_laws.specs.Greatest.{greatest};
-ghost use Rattle.ic_laws.specs.Scene.{found_name, same_key};
+ghost use Rattle.ic_laws.specs.Scene.{same_key};
 ghost use Rattle.ic_laws.specs.declared.tree.NameKey.{NameKey};
 ghost use Rattle.ic_definitions.specs.Bodies.{FitsBodies, StaysWhereFound, with_bodies};
 ghost use Rattle.ic_definitions.specs.Named.{FindsNames, IsHeldKey, StillFinds, definitions_scene, is_held_key, key_in, lowered, place_at, scopes_of};
-ghost use Rattle.ic_definitions.specs.Remade.{remade_body, touched_bodies};
-ghost use Rattle.ic_pool.specs.Remade.{LeavesUntouched};
 
 use super::Definitions;
-use crate::bodies::{rewrites_of, rewrites_remade};
 use crate::definition::held_key;
-use crate::{BodyRewrites, Definition, NamedDefinitions};
-use ic_laws::{Boxed, Formula, NameKey, NameMention, OutOfMemory};
-use ic_pool::{BookChange, DefinitionAdded, DefinitionGone, Remaking, has_dangling};
+use crate::{BodyRewrites, Definition};
+use ic_laws::{Formula, OutOfMemory};
+use ic_pool::has_dangling;
 use std::alloc::Global;
 use std::collections::BTreeMap;
 
 impl Definitions {
-    /// What a change does to the bodies of all definitions, prepared before any of them changes.
-    pub fn prepare<C: BookChange>(&self, change: &C) -> Result<BodyRewrites, OutOfMemory>
-        ensures made { IfOk result (λ w. with_bodies w.bodies.items self.now
-            ≡ map (with_body_tree (changed_tree (C.change change.now))) self.now) }
-        ensures fits { IfOk result (λ w. FitsBodies w self.now) }
-    {
-        rewrites_of(self.alloc, &self.list, change)
-    }
-
-    /// The same for a change that leaves each body in which all was found: where no body may dangle it looks at none.
-    pub fn prepare_dangling<C: BookChange>(&self, change: &C) -> Result<BodyRewrites, OutOfMemory>
-        requires { AllByRecursion (StaysWhereFound (C.change change.now)) self.now }
-        ensures made { IfOk result (λ w. with_bodies w.bodies.items self.now
-            ≡ map (with_body_tree (changed_tree (C.change change.now))) self.now) }
-        ensures fits { IfOk result (λ w. FitsBodies w self.now) }
-    {
-        if !self.may_dangle {
-            return Ok(BodyRewrites::new(self.alloc));
-        }
-        self.prepare(change)
-    }
-
-    /// What becomes of the bodies of all definitions where they are made anew, if the rule leaves each that it doesn't touch.
-    pub fn prepare_remade<R: Remaking>(&self, remaking: &R) -> Result<BodyRewrites, OutOfMemory>
-        requires { AllByRecursion (λ d. LeavesUntouched (R.made remaking.now) d.scope d.body)
-            self.now }
-        ensures made { IfOk result (λ w. with_bodies w.bodies.items self.now
-            ≡ map (remade_body (R.made remaking.now)) self.now) }
-        ensures listed { IfOk result (λ w. w.bodies.items
-            ≡ touched_bodies (R.made remaking.now) 0 self.now) }
-        ensures fits { IfOk result (λ w. FitsBodies w self.now) }
-    {
-        rewrites_remade(self.alloc, &self.list, remaking)
-    }
-
     /// Gives the definitions the bodies that were prepared.
     pub fn apply(&mut self, rewrites: BodyRewrites)
         requires { FitsBodies rewrites self.old }
@@ -68,7 +29,9 @@ impl Definitions {
         ensures finds { StillFinds self.old self.new }
     {
         self.may_dangle = rewrites.may_dangle;
+        self.mentioned.note_all(rewrites.bodies());
         rewrites.put(&mut self.list);
+        self.mentioned.renew(&self.list);
     }
 
     /// Adds a definition at the end. Words of the bodies that found nothing, and could mean it, do, with their sheets or
@@ -106,8 +69,7 @@ impl Definitions {
         ensures err { OnErr result (self.new ≡ self.old) }
         ensures finds { FindsNames places.new self.new }
     {
-        let mut nothing = BodyRewrites::new(self.alloc);
-        nothing.may_dangle = self.may_dangle;
+        let nothing = self.no_rewrites();
         self.add_prepared(places, definition, nothing)
     }
 
@@ -160,14 +122,19 @@ impl Definitions {
         let old = key_in(self.alloc, &self.list[index])?;
         let new = key_in(self.alloc, &definition)?;
         replace_key(places, &old, new, index)?;
+        let gone = scope_or_zero(&self.list[index]);
+        let most = self.greatest.max(scope_or_zero(&definition));
         self.may_dangle = bodies.may_dangle | has_dangling(definition.body());
+        self.mentioned.note_all(bodies.bodies());
+        self.mentioned.note(definition.body());
         bodies.put(&mut self.list);
         self.list[index] = definition;
-        self.greatest = greatest_of(self.list.as_slice());
+        self.greatest = greatest_left(&self.list, most, gone);
+        self.mentioned.renew(&self.list);
         Ok(())
     }
 
-    /// Gives the definition at an index, from 0, another body. It takes no memory.
+    /// Gives the definition at an index, from 0, another body. It needs no memory.
     pub fn set_body(&mut self, index: usize, body: Formula)
         requires { index < length self.old }
         ensures bodies { self.new ≡ updated_at (λ d. record d { body = body }) index self.old }
@@ -176,8 +143,10 @@ impl Definitions {
         ensures finds { StillFinds self.old self.new }
     {
         self.may_dangle |= has_dangling(&body);
+        self.mentioned.note(&body);
         let definition = &mut self.list[index];
         definition.set_body(body);
+        self.mentioned.renew(&self.list);
     }
 
     /// Takes the definition at an index away, from 0. Words of the bodies that meant it mean what `mention_without` tells, and
@@ -197,89 +166,6 @@ impl Definitions {
     {
         let bodies = self.prepare_gone(places, index)?;
         self.delete_prepared(places, index, bodies)
-    }
-
-    /// What a word that means the definition at an index, from 0, means without it: the one of an agreeing name that is local
-    /// to none, or nothing, by its name.
-    pub fn mention_without(
-        &self,
-        places: &BTreeMap<(String, Option<u32>), usize>,
-        index: usize,
-    ) -> Result<NameMention, OutOfMemory>
-        requires finds { FindsNames places.now self.now }
-        requires within { index < length self.now }
-        ensures { IfOk result (λ mention. (d : core.Definition) → slice_get self.now index ≡ Some d
-            → mention ≡ name_or_dangling d.name (found_name (definitions_scene
-            (remove self.now index)) None d.name)) }
-    {
-        let definition = &self.as_slice()[index];
-        match self.key_without(places, definition)? {
-            Some(key) => Ok(NameMention::Name(Boxed::new(self.alloc, key)?)),
-            None => Ok(NameMention::Dangling(Boxed::from_str(self.alloc, definition.name())?)),
-        }
-    }
-
-    /// The key that such a word finds without this definition, which is one of these.
-    fn key_without(
-        &self,
-        places: &BTreeMap<(String, Option<u32>), usize>,
-        definition: &Definition,
-    ) -> Result<Option<NameKey>, OutOfMemory>
-        requires { FindsNames places.now self.now }
-        ensures { IfOk result (λ key. (index : ℕ) → slice_get self.now index ≡ Some definition.now
-            → key ≡ found_name (definitions_scene (remove self.now index)) None
-            definition.now.name) }
-    {
-        // What always holds of definitions is known from here on.
-        let _ = &self.list;
-        let named = NamedDefinitions {
-            definitions: self,
-            places,
-        };
-        match definition.scope() {
-            Some(_) => named.key_at(None, definition.name()),
-            None => Ok(None),
-        }
-    }
-
-    /// What a definition that comes does to the bodies.
-    fn prepare_added(&self, definition: &Definition) -> Result<BodyRewrites, OutOfMemory>
-        requires { definition.now.scope ≡ None → AllByRecursion (StaysWhereFound
-            (definition_added (core.spelling_of definition.now))) self.now }
-        ensures made { IfOk result (λ w. with_bodies w.bodies.items self.now
-            ≡ map (with_body_tree (changed_tree (definition_added
-            (core.spelling_of definition.now)))) self.now) }
-        ensures fits { IfOk result (λ w. FitsBodies w self.now) }
-    {
-        let added = DefinitionAdded::new(definition.name(), definition.key());
-        match definition.scope() {
-            None => self.prepare_dangling(&added),
-            Some(_) => self.prepare(&added),
-        }
-    }
-
-    /// What the definition at an index does to the bodies where it goes.
-    fn prepare_gone(
-        &self,
-        places: &BTreeMap<(String, Option<u32>), usize>,
-        index: usize,
-    ) -> Result<BodyRewrites, OutOfMemory>
-        requires finds { FindsNames places.now self.now }
-        requires within { index < length self.now }
-        ensures made { IfOk result (λ w. (d : core.Definition) → slice_get self.now index ≡ Some d
-            → with_bodies w.bodies.items self.now ≡ map (with_body_tree (changed_tree
-            (definition_gone (definitions_scene (remove self.now index)) (core.spelling_of d))))
-            self.now) }
-        ensures fits { IfOk result (λ w. FitsBodies w self.now) }
-    {
-        let becomes = self.mention_without(places, index)?;
-        let definition = &self.as_slice()[index];
-        let gone = DefinitionGone {
-            key: definition.key(),
-            name: definition.name(),
-            becomes: &becomes,
-        };
-        self.prepare(&gone)
     }
 
     /// Adds a definition at the end, and gives the others the bodies that were prepared.
@@ -303,6 +189,8 @@ impl Definitions {
         places.insert(key, place)?;
         self.may_dangle = rewrites.may_dangle | has_dangling(definition.body());
         self.greatest = self.greatest.max(scope_or_zero(&definition));
+        self.mentioned.note_all(rewrites.bodies());
+        self.mentioned.note(definition.body());
         rewrites.put(&mut self.list);
         self.list.push_reserved(definition);
         Ok(())
@@ -337,7 +225,7 @@ impl Definitions {
     {
         places.retain(|_, place| *place < count);
         self.list.truncate(count);
-        self.greatest = greatest_of(self.list.as_slice());
+        self.greatest = greatest_of(&self.list, self.greatest);
     }
 
     /// The definitions in their order. No two have one key.
@@ -350,6 +238,7 @@ impl Definitions {
             list,
             greatest: _,
             may_dangle: _,
+            mentioned: _,
         } = self;
         list
     }
@@ -370,12 +259,15 @@ impl Definitions {
         ensures finds { FindsNames places.new self.new }
     {
         let key = key_in(self.alloc, &self.list[index])?;
+        let gone = scope_or_zero(&self.list[index]);
         self.may_dangle = rewrites.may_dangle;
+        self.mentioned.note_all(rewrites.bodies());
         rewrites.put(&mut self.list);
         places.remove(&key);
-        renumber(places, index);
         self.list.remove(index);
-        self.greatest = greatest_of(&self.list);
+        renumber(places, index, self.list.len());
+        self.greatest = greatest_left(&self.list, self.greatest, gone);
+        self.mentioned.renew(&self.list);
         Ok(())
     }
 }
@@ -410,11 +302,15 @@ fn replace_key(
     Ok(())
 }
 
-/// The indexes after the one that is taken away are lowered by one.
-fn renumber(places: &mut BTreeMap<(String, Option<u32>), usize>, index: usize)
+/// The indexes after the one that is taken away are lowered by one. No index is past the last one.
+fn renumber(places: &mut BTreeMap<(String, Option<u32>), usize>, index: usize, last: usize)
+    requires { (key : NameKey) → IfSome (place_at places.old key) (λ place. place ≤ last) }
     ensures { (key : NameKey) → place_at places.new key
         ≡ option_map (lowered index) (place_at places.old key) }
 {
+    if index == last {
+        return;
+    }
     places.retain(|_, place| {
         *place = lowered(*place, index);
         true
@@ -438,13 +334,28 @@ fn scope_or_zero(definition: &Definition) -> u32
     }
 }
 
-/// The greatest id that one of these is local to, 0 where none is.
-fn greatest_of(definitions: &[Definition]) -> u32
+/// The greatest id that one of these is local to, 0 where none is. None is greater than this one.
+fn greatest_of(definitions: &[Definition], most: u32) -> u32
+    requires { greatest (scopes_of definitions.now) ≤ most }
     ensures { result ≡ greatest (scopes_of definitions.now) }
 {
-    let mut most = 0;
+    let mut found = 0;
     for definition in definitions {
-        most = most.max(scope_or_zero(definition));
+        found = found.max(scope_or_zero(definition));
+        if found == most {
+            return most;
+        }
     }
-    most
+    found
+}
+
+/// The same where this one is the greatest of theirs and of one that went, which was local to the sheet with the id `gone`.
+fn greatest_left(definitions: &[Definition], most: u32, gone: u32) -> u32
+    requires { most ≡ max (greatest (scopes_of definitions.now)) gone }
+    ensures { result ≡ greatest (scopes_of definitions.now) }
+{
+    if gone < most {
+        return most;
+    }
+    greatest_of(definitions, most)
 }

@@ -5,8 +5,10 @@ use Rattle.ic_laws.specs.CoreBook.{Definition}
 use Rattle.ic_laws.specs.CoreStep.{is_named}
 use Rattle.ic_pool.specs.Mentions.{has_dangling}
 use Rattle.ic_definitions.specs.Bodies.{HasFoundAll, with_bodies}
+use Rattle.ic_definitions.specs.Mentioned.{KnowsBodies, KnowsFormula}
 use Rattle.ic_definitions.specs.Named.{FindsNames}
 use Rattle.ic_definitions.proofs.BodyLemmas.{keys_kept, written_back}
+use Rattle.ic_definitions.proofs.MentionedBodies.{knows_more, knows_pushed, knows_written}
 use Rattle.ic_definitions.proofs.NamedLemmas.{finds_pushed, named_pushed}
 use Rattle.ic_definitions.proofs.definitions.Definitions.add_prepared.Goals as goal
 
@@ -18,12 +20,18 @@ invariant_of-self-2 c =
     let back : _ ≡ with_bodies news ds =
     written_back c.reserve.new.self.len news c.reserve.new.self.items c.deref_mut.result.now c.put.new.definitions c.put.ensures c.deref_mut.ensures.value c.reserve.new.self.ok.0 ∙ ap (with_bodies news) c.reserve.ensures.items in
     let free : list_any (is_named d.name d.scope) ds ≡ false = ap (list_any (is_named d.name d.scope)) c.self.view_is ∙ c.requires.free in
-    named_pushed c.self.inside.greatest c.max-self-inside.result c.self.inside.may_dangle _ ds (with_bodies news ds) c.push_reserved.new.self.items d
-    c.self.invariant (keys_kept news ds) free (c.max-self-inside.ensures ∙ ap (max c.self.inside.greatest) c.scope_or_zero.ensures)
-    (λ e.
-    let parts = or_parts c.args.rewrites.may_dangle c.has_dangling.result e in
-    (subst (λ xs. AllByRecursion HasFoundAll (with_bodies news xs)) (sym c.self.view_is) (c.requires.fits.dangles parts.0), sym (c.has_dangling.ensures ∙ ap has_dangling c.body.ensures) ∙ parts.1))
-    (c.push_reserved.ensures.items ∙ ap (λ xs. xs ++ d ∷ []) back)
+    let pushed = c.push_reserved.ensures.items ∙ ap (λ xs. xs ++ d ∷ []) back in
+    let written : KnowsBodies c.note_all.new.self (with_bodies news ds) =
+    knows_written c.self.inside.mentioned c.note_all.new.self news c.bodies.result.now ds c.bodies.ensures c.note_all.ensures.noted c.note_all.ensures.kept c.self.invariant.1 in (
+      named_pushed c.self.inside.greatest c.max-self-inside.result c.self.inside.may_dangle _ ds (with_bodies news ds) c.push_reserved.new.self.items d
+          c.self.invariant.0 (keys_kept news ds) free (c.max-self-inside.ensures ∙ ap (max c.self.inside.greatest) c.scope_or_zero.ensures)
+          (λ e.
+          let parts = or_parts c.args.rewrites.may_dangle c.has_dangling.result e in
+          (subst (λ xs. AllByRecursion HasFoundAll (with_bodies news xs)) (sym c.self.view_is) (c.requires.fits.dangles parts.0), sym (c.has_dangling.ensures ∙ ap has_dangling c.body.ensures) ∙ parts.1))
+          pushed,
+      knows_pushed c.note.new.self (with_bodies news ds) _ d (knows_more c.note_all.new.self c.note.new.self (with_bodies news ds) c.note.ensures.kept written)
+          (subst (KnowsFormula c.note.new.self) c.body-2.ensures c.note.ensures.noted) pushed,
+    )
 
 pub returns-clause-finds : goal.returns-clause-finds
 returns-clause-finds c =

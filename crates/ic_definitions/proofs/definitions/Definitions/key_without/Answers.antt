@@ -15,4 +15,4 @@ returns-in-Some c =
     c.key_at.ensures
 
 pub returns-in-None : goal.returns-in-None
-returns-in-None c = λ index at. global_gone c.args.self.now index c.args.definition.now at (subst (λ ds. IsDistinct same_key (map key_in ds)) c.self.view_is c.self.invariant.differ) (sym c.scope.ensures ∙ c.in-None.is)
+returns-in-None c = λ index at. global_gone c.args.self.now index c.args.definition.now at (subst (λ ds. IsDistinct same_key (map key_in ds)) c.self.view_is c.self.invariant.0.differ) (sym c.scope.ensures ∙ c.in-None.is)

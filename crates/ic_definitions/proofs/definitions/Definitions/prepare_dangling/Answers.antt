@@ -6,5 +6,5 @@ use Rattle.ic_definitions.proofs.definitions.Definitions.prepare_dangling.Goals 
 
 pub returns-then-not-self-clause-made : goal.returns-then-not-self-clause-made
 returns-then-not-self-clause-made g c =
-    nothing_makes (g.C.BookChange.change c.args.change.now) c.args.self.now c.new.result.bodies.items c.requires
-    (subst (AllByRecursion HasFoundAll) c.self.view_is (c.self.invariant.dangles c.if-not-self.true)) c.new.ensures.bodies
+    nothing_makes (g.C.BookChange.change c.args.change.now) c.args.self.now c.no_rewrites.result.bodies.items c.requires
+    (subst (AllByRecursion HasFoundAll) c.self.view_is (c.self.invariant.0.dangles c.if-not-self.true)) c.no_rewrites.ensures.bodies
