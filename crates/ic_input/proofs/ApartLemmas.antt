@@ -1,5 +1,5 @@
 -- Texts that their first characters tell apart in any case.
-use Rattle.std.proofs.Common.{◌≡◌, ℕ, ◌<◌, List, ◌∷◌, ◌++◌, Bool, false, ◌==◌, bytes_eq, refl, ap, ap₂, ◌∙◌}
+use Rattle.std.proofs.Common.{◌≡◌, ℕ, ◌<◌, List, ◌∷◌, ◌++◌, false, ◌==◌, bytes_eq, refl, ap, ap₂, ◌∙◌}
 use Rattle.std.specs.Char.{to_ascii_lowercase}
 use Rattle.ic_laws.specs.Name.{agrees, fold}
 use Rattle.ic_tables.proofs.CompareLemmas.{fold-cons, full_fold-ascii}
