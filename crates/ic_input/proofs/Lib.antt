@@ -1,4 +1,5 @@
 pub mod AgainLemmas
+pub mod ApartLemmas
 pub mod CodeLaws
 pub mod CodeSteps
 pub mod CountedLemmas

@@ -21,6 +21,7 @@ mod kind;
 mod law;
 mod number;
 mod push;
+mod word;
 
 pub use amount::{amount_text, read_amount};
 pub use code::is_date_code;

@@ -1,5 +1,5 @@
 //! Numbers as they are typed, without their sign.
-ghost use Rattle.std.specs.Prelude.{◌≡◌, ◌<◌, ◌≤◌, ◌+◌, ◌^◌, ◌&&◌, ◌||◌, not, nat_le, nat_lt, min, pos, chars, length, option_map};
+ghost use Rattle.std.specs.Prelude.{◌≡◌, ◌<◌, ◌≤◌, ◌+◌, ◌^◌, ◌&&◌, ◌||◌, not, nat_le, nat_lt, min, pos, chars, length, option_map, true};
 ghost use Rattle.std.specs.Str.Parse.{digits_value};
 ghost use Rattle.ic_laws.specs.Scan.{past_run};
 ghost use Rattle.ic_input.specs.Code.{stands_beside};
@@ -29,8 +29,29 @@ pub(crate) fn unsigned_number<'t>(text: &'t str, locale: &Locale) -> Option<Numb
     from_digits(front_of(text, body), body, locale)
 }
 
-// What stands after the characters that no digits begin with.
+// What stands after the characters that no digits begin with. ASCII characters are told by their bytes.
 fn past_other(text: &str, decimal: char) -> &str
+    ensures { chars result.now ≡ past_run (stands_before decimal) (chars text.now) }
+{
+    let bytes = text.as_bytes();
+    let mut at = 0;
+    while at < bytes.len() && is_other_byte(bytes[at], decimal) {
+        at += 1;
+    }
+    let (_, rest) = text.split_at(at);
+    past_other_characters(rest, decimal)
+}
+
+// Whether it is an ASCII character that no digits begin with.
+fn is_other_byte(byte: u8, decimal: char) -> bool
+    ensures ascii { result ≡ true → byte < 128 }
+    ensures other { result ≡ true → stands_before decimal byte ≡ true }
+{
+    byte.is_ascii() && !byte.is_ascii_digit() && char::from(byte) != decimal
+}
+
+// The same, told by characters.
+fn past_other_characters(text: &str, decimal: char) -> &str
     ensures { chars result.now ≡ past_run (stands_before decimal) (chars text.now) }
 {
     let mut rest = text;
