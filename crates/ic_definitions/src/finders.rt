@@ -1,5 +1,5 @@
 //! What would be found among other definitions than those of the book, which needn't be made for that.
-ghost use Rattle.std.specs.Prelude.{◌≡◌, ◌&&◌, ◌++◌, IfOk, None, chars, length, nat_lt, not, option_map, slice_get};
+ghost use Rattle.std.specs.Prelude.{◌≡◌, ◌&&◌, ◌++◌, IfOk, None, Some, chars, length, nat_lt, not, option_map, slice_get, true};
 ghost use Rattle.std.specs.Option.{option_and_then};
 ghost use Rattle.ic_laws.specs.Name.{fold};
 ghost use Rattle.ic_laws.specs.Scene.{definition_at, found_name, key_of, name_of_key, same_key};
@@ -84,7 +84,11 @@ pub struct UpdatedDefinitions<'d> {
     index: usize,
     name: &'d str,
     key: &'d NameKey,
+    /// Whether it is known that this key finds the one at the index: where not, it is looked up each time.
+    has_key: bool,
     ghost own: { key.now.name ≡ fold (chars name.now) },
+    ghost found: { has_key ≡ true → Some (chars name.now) ≡ name_of_key (renamed_scene index
+        (chars name.now) key.now.scope definitions.definitions.now) key.now },
 }
 
 impl<'d> UpdatedDefinitions<'d> {
@@ -101,11 +105,20 @@ impl<'d> UpdatedDefinitions<'d> {
         ensures name { result.name.now ≡ name.now }
         ensures key { result.key.now ≡ key.now }
     {
+        let unknown = UpdatedDefinitions {
+            definitions,
+            index,
+            name,
+            key,
+            has_key: false,
+        };
+        let has_key = unknown.is_found(key, definitions.place_of(key));
         UpdatedDefinitions {
             definitions,
             index,
             name,
             key,
+            has_key,
         }
     }
 
@@ -139,6 +152,9 @@ impl<'d> UpdatedDefinitions<'d> {
             self.now.index (chars self.now.name.now) self.now.key.now.scope
             self.now.definitions.definitions.now) key.now }
     {
+        if self.is_known(key) {
+            return Some(self.name);
+        }
         let place = self.definitions.place_of(key);
         if self.is_found(key, place) {
             return Some(self.name);
@@ -147,6 +163,13 @@ impl<'d> UpdatedDefinitions<'d> {
             return None;
         }
         name_in(self.definitions.definitions.as_slice(), place)
+    }
+
+    /// Whether it is known that this key finds the one at the index.
+    fn is_known(&self, key: &NameKey) -> bool
+        ensures { result ≡ (self.now.has_key && same_key self.now.key.now key.now) }
+    {
+        self.has_key && same_key(self.key, key)
     }
 
     /// Whether the one at the index has this key now, and none before it has: the place is that of the first that had it.

@@ -1,14 +1,14 @@
 -- What the sheets keep beside them stays true when sheets come, go, get other names or places, and when their formulas change.
 use Rattle.std.proofs.Common.{◌≡◌, ℕ, suc, ◌<◌, List, [], ◌∷◌, ◌++◌, false, cond, Some, None, append-nil, max, length, take, drop, get_or, slice_set, encode_utf8_all, bytes_eq, nat_eq, refl, sym, ap, subst, ◌∙◌, arith}
 use Rattle.std.proofs.lemmas.List.{map-append, take-append-drop}
-use Rattle.std.proofs.lemmas.List.Sorted.{IsPermutation-map}
+use Rattle.std.proofs.lemmas.List.Sorted.{IsPermutation-map, length_permutation}
 use Rattle.std.proofs.lemmas.Map.Keys.{IsDistinct-IsPermutation, IsDistinct-push}
-use Rattle.std.proofs.lemmas.Option.{slice_get_read}
+use Rattle.std.proofs.lemmas.Option.{get_or_from_slice_get, slice_get_read}
 use Rattle.std.specs.BTreeMap.{IsEmpty, get_by_text}
 use Rattle.std.specs.Cmp.{nat_eq_equiv}
 use Rattle.std.specs.List.{IsDistinct, insert, list_any, remove}
 use Rattle.ic_laws.proofs.core.Lists.{distinct_removed, none_passes, removed_seen, updated_unseen}
-use Rattle.ic_laws.proofs.core.SheetMoved.{moved_permutes}
+use Rattle.ic_laws.proofs.core.SheetMoved.{item_at, moved_permutes}
 use Rattle.ic_laws.specs.CoreStep.{moved, put_back, updated_at}
 use Rattle.ic_laws.specs.Greatest.{greatest}
 use Rattle.ic_laws.specs.Name.{agrees, fold}
@@ -89,10 +89,13 @@ pub finds_removed : (before after : Index) (last : ℕ) (sheets list : List Shee
     → ((q : List ℕ) → get_by_text after (encode_utf8_all q) ≡ cond (bytes_eq (fold s.name) q) None (get_by_text before (encode_utf8_all q))) → FindsSheets after list
 finds_removed before after last sheets list place s kept finds lt read removed u = (IsIndexed-remove_at before after sheets list place s (record { finds = finds; differ = kept.names_differ }) lt read removed u).finds
 
+pub ids_removed : (sheets : List Sheet) (place : ℕ) → IsDistinct nat_eq (ids sheets) → IsDistinct nat_eq (ids (remove sheets place))
+ids_removed sheets place differ = subst (IsDistinct nat_eq) (sym (removed_seen (λ (x : Sheet). x.id) sheets place)) (distinct_removed nat_eq_equiv (ids sheets) place differ)
+
 pub kept_removed : (last now_last : ℕ) (sheets list : List Sheet) (place : ℕ) (s : Sheet) → AreKept last sheets → place < length sheets → s ≡ get_or sheets place s → list ≡ remove sheets place → now_last ≡ greatest (ids list) → AreKept now_last list
 kept_removed last now_last sheets list place s kept lt read removed found = record {
   names_differ = differ_removed sheets list place s kept.names_differ lt read removed;
-  ids_differ = subst (IsDistinct nat_eq) (sym (ap ids removed ∙ removed_seen (λ (x : Sheet). x.id) sheets place)) (distinct_removed nat_eq_equiv (ids sheets) place kept.ids_differ);
+  ids_differ = subst (λ xs. IsDistinct nat_eq (ids xs)) (sym removed) (ids_removed sheets place kept.ids_differ);
   greatest = found;
 }
 
@@ -129,6 +132,17 @@ greatest_middle (x ∷ front) back s = let rest = greatest_middle front back s i
 
 pub moved_is : (sheets : List Sheet) (from to : ℕ) (s : Sheet) → from < length sheets → s ≡ get_or sheets from s → insert (remove sheets from) to s ≡ moved from to sheets
 moved_is sheets from to s lt read = ap (put_back to (remove sheets from)) (sym (slice_get_read sheets (length sheets) from s refl lt read))
+
+-- the sheet at an index
+pub record Taken (sheets : List Sheet) (at : ℕ) : Type 0 where
+  pub sheet : Sheet
+  pub read : sheet ≡ get_or sheets at sheet
+
+pub taken : (sheets : List Sheet) (at : ℕ) → at < length sheets → Taken sheets at
+taken sheets at lt = let item = item_at sheets at lt in record { sheet = item.0; read = sym (get_or_from_slice_get sheets at item.0 item.0 item.1) }
+
+pub length_moved : (sheets : List Sheet) (from to : ℕ) → from < length sheets → to < length sheets → length (moved from to sheets) ≡ length sheets
+length_moved sheets from to lt within = length_permutation sheets (moved from to sheets) (moved_permutes sheets from to lt)
 
 pub finds_moved : (index : Index) (last : ℕ) (sheets list : List Sheet) (from to : ℕ) (s : Sheet) → AreKept last sheets → FindsSheets index sheets → from < length sheets → s ≡ get_or sheets from s → list ≡ insert (remove sheets from) to s → FindsSheets index list
 finds_moved index last sheets list from to s kept finds lt read put =

@@ -15,10 +15,10 @@ use Rattle.std.specs.String.{string_cmp}
 use Rattle.std.specs.declared.cmp.Ordering.TheVariants.{Less}
 use Rattle.std.specs.declared.alloc.Global.{Global}
 use Rattle.ic_laws.specs.Name.{agrees, fold}
-use Rattle.ic_sheets.proofs.IndexLemmas.{Index, alone, id_of-middle, split_at}
+use Rattle.ic_sheets.proofs.IndexLemmas.{Index, alone, id_of-middle, same_encoded, split_at}
 use Rattle.ic_sheets.proofs.PlaceLemmas.{alone as alone_by_id}
 use Rattle.ic_sheets.proofs.SearchLemmas.{ids, names}
-use Rattle.ic_sheets.specs.Index.{AreKept, FindsSheets, other_than}
+use Rattle.ic_sheets.specs.Index.{AreKept, FindsSheets, IsFoundBy, LosesName, other_than}
 use Rattle.ic_sheets.specs.Search.{id_of}
 use Rattle.ic_sheets.specs.declared.sheet.Sheet.{Sheet}
 
@@ -64,19 +64,21 @@ others_stay id q (s ∷ sheets) free =
     step true other rest = ap (λ c. cond c None (Some s.id)) other
     step false other rest = rest
 
-pub gone_by_name : (before after : Index) (last : ℕ) (sheets : List Sheet) (place : ℕ) (s : Sheet) → AreKept last sheets → FindsSheets before sheets → place < length sheets → s ≡ get_or sheets place s
-    → ((q : List ℕ) → get_by_text after q ≡ other_than s.id (get_by_text before q))
-    → (q : List ℕ) → get_by_text after (encode_utf8_all q) ≡ cond (bytes_eq (fold s.name) q) None (get_by_text before (encode_utf8_all q))
-gone_by_name before after last sheets place s kept finds lt read gone q =
+pub found_by_name : (before : Index) (last : ℕ) (sheets : List Sheet) (place : ℕ) (s : Sheet) → AreKept last sheets → FindsSheets before sheets → place < length sheets → s ≡ get_or sheets place s → IsFoundBy s.name s.id before
+found_by_name before last sheets place s kept finds lt read q =
     let front : List Sheet = take place sheets in
     let back : List Sheet = drop (suc place) sheets in
     let parts : sheets ≡ front ++ s ∷ back = split_at sheets place s lt read in
     let none = alone front back s (subst (λ xs. IsDistinct agrees (names xs)) parts kept.names_differ) in
     let free = alone_by_id front back s (subst (λ xs. IsDistinct nat_eq (ids xs)) parts kept.ids_differ) in
     let here : get_by_text before (encode_utf8_all q) ≡ cond (bytes_eq (fold s.name) q) (Some s.id) (id_of q (front ++ back)) = finds q ∙ ap (id_of q) parts ∙ id_of-middle front back s none q in
-    gone (encode_utf8_all q) ∙ ap (other_than s.id) here ∙ step (bytes_eq (fold s.name) q) (id_of q (front ++ back)) (others_stay s.id q (front ++ back) free)
-    ∙ ap (cond (bytes_eq (fold s.name) q) None) (sym here)
+    ap (other_than s.id) here ∙ step (bytes_eq (fold s.name) q) (id_of q (front ++ back)) (others_stay s.id q (front ++ back) free) ∙ ap (cond (bytes_eq (fold s.name) q) None) (sym here)
   where
     step : (b : Bool) (o : Option ℕ) → other_than s.id o ≡ o → other_than s.id (cond b (Some s.id) o) ≡ cond b None (cond b (Some s.id) o)
     step true o e = ap (λ c. cond c None (Some s.id)) (nat_eq_equiv.refl s.id)
     step false o e = e
+
+-- the key of a name is taken out
+pub name_lost : (before after : Index) (name key : List ℕ) → key ≡ encode_utf8_all (fold name) → ((q : List ℕ) → get_by_text after q ≡ cond (bytes_eq key q) None (get_by_text before q)) → LosesName name before after
+name_lost before after name key is gone q =
+    gone (encode_utf8_all q) ∙ ap (λ b. cond b None (get_by_text before (encode_utf8_all q))) (ap (λ k. bytes_eq k (encode_utf8_all q)) is ∙ same_encoded (fold name) q)

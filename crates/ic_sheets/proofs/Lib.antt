@@ -1,6 +1,7 @@
 pub mod ApartLemmas
 pub mod CellLemmas
 pub mod DanglingLemmas
+pub mod FollowLemmas
 pub mod IndexLemmas
 pub mod InsertLemmas
 pub mod KeptLemmas
@@ -14,4 +15,5 @@ pub mod RecordLemmas
 pub mod RemadeLemmas
 pub mod RewritingLemmas
 pub mod SearchLemmas
+pub mod ShiftLemmas
 pub mod WriteLemmas

@@ -12,7 +12,7 @@ use Rattle.std.proofs.lemmas.Iterator.Adapters.{position_from-zero}
 use Rattle.std.proofs.lemmas.List.{length-take, take-append-drop}
 use Rattle.std.proofs.lemmas.List.Sorted.{IsPermutation-map, IsPermutation-middle}
 use Rattle.std.proofs.lemmas.Map.Keys.{IsDistinct-IsPermutation, IsDistinct-head}
-use Rattle.ic_sheets.specs.Index.{AreAtIndexes, lowered, moved_index, raised}
+use Rattle.ic_sheets.specs.Index.{AreAtIndexes, Follow, lowered, moved_index, raised}
 use Rattle.ic_sheets.specs.Search.{index_with_id}
 use Rattle.ic_sheets.specs.declared.sheet.Sheet.{Sheet}
 use Rattle.ic_sheets.proofs.IndexLemmas.{clash, split_at}
@@ -66,7 +66,7 @@ same_number k q = step (nat_lt k q) refl (nat_eq k q) refl
     step false lt true e = refl
     step false lt false e = refl
 
-updated : (before after : Places) (key : ℕ) (w : Option ℕ) → Updates nat_cmp before after key w → (q : ℕ) → get nat_cmp after q ≡ cond (nat_eq key q) w (get nat_cmp before q)
+pub updated : (before after : Places) (key : ℕ) (w : Option ℕ) → Updates nat_cmp before after key w → (q : ℕ) → get nat_cmp after q ≡ cond (nat_eq key q) w (get nat_cmp before q)
 updated before after key w u q = u.0 q ∙ ap (λ b. cond b w (get nat_cmp before q)) (same_number key q)
 
 pub placed_empty : (indexes : Places) (sheets : List Sheet) → IsEmpty indexes → sheets ≡ [] → AreAtIndexes indexes sheets
@@ -212,7 +212,7 @@ module _ (sheets : List Sheet) (at : ℕ) (s : Sheet) (differ : IsDistinct nat_e
   counted = omega (arith, length-take at sheets)
 
   -- the sheet itself, or one of the others
-  there : (q : ℕ) → index_with_id q sheets ≡ cond (nat_eq s.id q) (Some at) (option_map (raised at) (index_with_id q (front ++ back)))
+  pub there : (q : ℕ) → index_with_id q sheets ≡ cond (nat_eq s.id q) (Some at) (option_map (raised at) (index_with_id q (front ++ back)))
   there q = ap (index_with_id q) parts ∙ place_middle front back s free q ∙ ap (λ n. cond (nat_eq s.id q) (Some n) (option_map (raised n) (index_with_id q (front ++ back)))) counted
 
   left : (q : ℕ) (b : Bool) → nat_eq s.id q ≡ b → (o : Option ℕ) → index_with_id q (front ++ back) ≡ o → option_map (lowered at) (cond b None (cond b (Some at) (option_map (raised at) o))) ≡ o
@@ -220,31 +220,24 @@ module _ (sheets : List Sheet) (at : ℕ) (s : Sheet) (differ : IsDistinct nat_e
   left q false e None f = refl
   left q false e (Some k) f = ap (λ n. Some n) (back_again at k)
 
-  pub placed_removed : (before between after : Places) (list : List Sheet) → AreAtIndexes before sheets → list ≡ remove sheets at → Updates nat_cmp before between s.id None → ((q : ℕ) → get nat_cmp after q ≡ option_map (lowered at) (get nat_cmp between q)) → AreAtIndexes after list
-  placed_removed before between after list placed removed u low =
-      subst (AreAtIndexes after) (sym removed)
-      (record {
-        finds = λ q.
-            low q ∙ ap (option_map (lowered at)) (updated before between s.id None u q ∙ ap (cond (nat_eq s.id q) None) (placed.finds q ∙ there q))
-            ∙ left q (nat_eq s.id q) refl (index_with_id q (front ++ back)) refl;
-      })
+  pub lowered_follow : (before between : Places) (list : List Sheet) → AreAtIndexes before sheets → list ≡ remove sheets at → Updates nat_cmp before between s.id None → Follow (lowered at) between list
+  lowered_follow before between list placed removed u q =
+      ap (option_map (lowered at)) (updated before between s.id None u q ∙ ap (cond (nat_eq s.id q) None) (placed.finds q ∙ there q)) ∙ left q (nat_eq s.id q) refl (index_with_id q (front ++ back)) refl
+      ∙ sym (ap (index_with_id q) removed)
 
   follows : (to : ℕ) (b : Bool) (o : Option ℕ) → option_map (moved_index at to) (cond b (Some at) (option_map (raised at) o)) ≡ cond b (Some to) (option_map (raised to) o)
   follows to true o = ap (λ n. Some n) (goes_there at to)
   follows to false None = refl
   follows to false (Some k) = ap (λ n. Some n) (others_follow at to k)
 
-  pub placed_moved : (before after : Places) (list : List Sheet) (to : ℕ) → AreAtIndexes before sheets → to < length sheets → list ≡ insert (remove sheets at) to s → ((q : ℕ) → get nat_cmp after q ≡ option_map (moved_index at to) (get nat_cmp before q)) → AreAtIndexes after list
-  placed_moved before after list to placed within put moves =
+  pub moved_follow : (before : Places) (list : List Sheet) (to : ℕ) → AreAtIndexes before sheets → to < length sheets → list ≡ insert (remove sheets at) to s → Follow (moved_index at to) before list
+  moved_follow before list to placed within put q =
       let first : List Sheet = take to (front ++ back) in
       let rest : List Sheet = drop to (front ++ back) in
       let same : first ++ rest ≡ front ++ back = take-append-drop to (front ++ back) in
       let free_too : list_any (nat_eq s.id) (ids (first ++ rest)) ≡ false = ap (λ xs. list_any (nat_eq s.id) (ids xs)) same ∙ free in
       let all : length sheets ≡ suc (length (front ++ back)) = ap length parts ∙ longer s front back in
       let counted_too : length first ≡ to = omega (arith, length-take to (front ++ back), all) in
-      subst (AreAtIndexes after) (sym put)
-      (record {
-        finds = λ q.
-            moves q ∙ ap (option_map (moved_index at to)) (placed.finds q ∙ there q) ∙ follows to (nat_eq s.id q) (index_with_id q (front ++ back))
-            ∙ sym (place_middle first rest s free_too q ∙ ap₂ (λ n xs. cond (nat_eq s.id q) (Some n) (option_map (raised n) (index_with_id q xs))) counted_too same);
-      })
+      ap (option_map (moved_index at to)) (placed.finds q ∙ there q) ∙ follows to (nat_eq s.id q) (index_with_id q (front ++ back))
+      ∙ sym (place_middle first rest s free_too q ∙ ap₂ (λ n xs. cond (nat_eq s.id q) (Some n) (option_map (raised n) (index_with_id q xs))) counted_too same)
+      ∙ sym (ap (index_with_id q) put)

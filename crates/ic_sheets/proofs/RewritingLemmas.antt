@@ -1,6 +1,6 @@
 -- What was prepared for the formulas of all sheets, done in any order of the steps of a change.
 use Rattle.std.proofs.Common.{◌≡◌, ℕ, zero, suc, ◌<◌, List, [], ◌∷◌, ◌++◌, Bool, true, false, cond, ◌&&◌, ◌||◌, Option, Some, map, length, get_or, slice_set, take, drop, ◌+◌, refl, sym, ap, ap₂, subst, subst₂, ◌∙◌, arith}
-use Rattle.std.specs.List.{AllZip, list_any, remove, slice_get}
+use Rattle.std.specs.List.{AllByRecursion, AllZip, list_any, remove, slice_get}
 use Rattle.std.specs.Prelude.{not}
 use Rattle.std.proofs.lemmas.Option.{slice_get_read}
 use Rattle.std.proofs.lemmas.List.{take_at, take_more}
@@ -11,7 +11,7 @@ use Rattle.ic_laws.specs.CoreStep.{updated_at}
 use Rattle.ic_laws.specs.declared.tree.Formula.{Formula}
 use Rattle.ic_pool.specs.Mentions.{KeepsAllFound, SparesFound, formula_after, has_dangling, is_changed_by}
 use Rattle.ic_pool.specs.Pool.{PoolState, dangling_from, places_from}
-use Rattle.ic_pool.specs.Rewrites.{FitsPool, RewritesState, changes_nothing, is_nothing, places_of, rewritten_by}
+use Rattle.ic_pool.specs.Rewrites.{FitsPool, RewritesState, changed_by, changes_nothing, is_nothing, places_of, rewritten_by}
 use Rattle.ic_pool.specs.declared.pool.rewrites.Replacement.{Replacement}
 use Rattle.ic_pool.proofs.ChangeLemmas.{spared_stays}
 use Rattle.ic_sheets.proofs.SearchLemmas.{ids, names}
@@ -117,6 +117,34 @@ prepared_makes change ws sheets h = record {
   made = each_made (IsPrepared change) (changed_pool change) (λ w s p. ap (λ (pool : List Formula). let one : Sheet = record (sheet_of s) { pool = pool } in one) p.made) ws sheets h;
   looks_up = each_seen (IsPrepared change) (λ (s : HeldSheet). s.pool.is_whole) (looks_up_after change) (looked_up change) ws sheets h;
 }
+
+-- ---- nothing changes
+
+abbrev pub AreNothing : List RewritesState → Type 0
+AreNothing ws = AllByRecursion (λ w. changes_nothing w ≡ true) ws
+
+nothing_push : (ws : List RewritesState) (w : RewritesState) → AreNothing ws → changes_nothing w ≡ true → AreNothing (ws ++ w ∷ [])
+nothing_push [] w h one = (one, tt)
+nothing_push (v ∷ ws) w h one = (h.0, nothing_push ws w h.1 one)
+
+-- so many change nothing, and the next
+pub nothing_next : (ws : List RewritesState) (i : ℕ) (w : RewritesState) → i < length ws → w ≡ get_or ws i w → AreNothing (take i ws) → changes_nothing w ≡ true → AreNothing (take (i + 1) ws)
+nothing_next ws i w within item h one = subst AreNothing (ap (λ y. take i ws ++ y ∷ []) item ∙ sym (take_more ws i w within)) (nothing_push (take i ws) w h one)
+
+nothing_made : (w : RewritesState) (s : HeldSheet) → changes_nothing w ≡ true → with_rewrites w s ≡ s
+nothing_made w s e = step w.changes refl e
+  where
+    step : (changes : List Replacement) → w.changes ≡ changes → is_nothing changes ≡ true → with_rewrites w s ≡ s
+    step [] none e =
+        ap₂ (λ (changes : List Replacement) (is_whole : Bool). let one : HeldSheet = record s { pool = record { formulas = changed_by changes s.pool.formulas; is_whole = is_whole } } in one) none
+        (ap (λ changes. s.pool.is_whole && is_nothing changes) none ∙ sym (and_true s.pool.is_whole))
+    step (c ∷ changes) some e = cc
+
+-- the sheets stay
+pub nothing_done : (ws : List RewritesState) (sheets : List HeldSheet) → AreNothing ws → with_all_rewrites ws sheets ≡ sheets
+nothing_done [] sheets h = refl
+nothing_done (w ∷ ws) [] h = refl
+nothing_done (w ∷ ws) (s ∷ sheets) h = ap₂ ◌∷◌ (nothing_made w s h.0) (nothing_done ws sheets h.1)
 
 -- ---- done from the last one on
 

@@ -1,10 +1,11 @@
-ghost use Rattle.std.specs.Prelude.{◌≡◌, [], chars, encode_utf8_all, find, length, map, nat_eq, option_map, position, remove, slice_get, string_bytes, IfOk};
+ghost use Rattle.std.specs.Prelude.{◌≡◌, List, [], chars, encode_utf8_all, find, length, map, nat_eq, option_map, position, remove, slice_get, string_bytes, IfOk};
 ghost use Rattle.std.specs.BTreeMap.{get};
 ghost use Rattle.std.specs.List.{IsDistinct, list_any};
 ghost use Rattle.std.specs.Ordering.{nat_cmp};
 ghost use Rattle.ic_laws.specs.Greatest.{greatest};
 ghost use Rattle.ic_laws.specs.Name.{agrees, fold};
-ghost use Rattle.ic_sheets.specs.Index.{FindsSheets};
+ghost use Rattle.ic_sheets.specs.Index.{AreAtIndexes, FindsSheets};
+ghost use Rattle.ic_sheets.specs.declared.sheet.Sheet.{Sheet};
 
 mod changes;
 mod dangling;
@@ -228,13 +229,13 @@ impl Sheets {
     }
 }
 
-/// The greatest id of these sheets, 0 where there is none.
-fn greatest_of(sheets: &[Sheet]) -> u32
-    ensures { result ≡ greatest (map (λ s. s.id) sheets.now) }
+/// The greatest id of the sheets that stand at these indexes, 0 where there is none.
+fn greatest_in(indexes: &BTreeMap<u32, usize>) -> u32
+    ensures { (sheets : List Sheet) → AreAtIndexes indexes.now sheets
+        → result ≡ greatest (map (λ s. s.id) sheets) }
 {
-    let mut most = 0;
-    for sheet in sheets {
-        most = most.max(sheet.id);
+    match indexes.last_key_value() {
+        Some((id, _)) => *id,
+        None => 0,
     }
-    most
 }

@@ -15,7 +15,9 @@ ghost use Rattle.ic_sheets.specs.declared.sheet.Sheet.{Sheet as HeldSheet};
 
 use super::Sheets;
 use super::dangling::{keep_dangling, looked_at, note_dangling};
-use super::rewriting::{apply_all, apply_own, prepare, prepare_own, prepare_remade};
+use super::rewriting::{
+    apply_all, apply_own, change_nothing, prepare, prepare_own, prepare_remade,
+};
 use ic_laws::{Finder, OutOfMemory};
 use ic_pool::{BookChange, DefinitionAdded, Remaking, Rewrites, SheetGone, SheetNamed};
 use std::collections::BTreeMap;
@@ -278,12 +280,12 @@ impl Sheets {
         prepare_own(self.alloc, sheets, &self.indexes, &ids, change)
     }
 
-    /// Does to the formulas of each sheet what was prepared for it. Where nothing was, all stay.
+    /// Does to the formulas of each sheet what was prepared for it. Where that is nothing, no sheet is looked at.
     pub fn apply(&mut self, prepared: Vec<Rewrites>)
         requires { FitSheets prepared.items self.old }
         ensures { self.new ≡ with_all_rewrites prepared.items self.old }
     {
-        if prepared.is_empty() {
+        if change_nothing(&prepared) {
             return;
         }
         apply_all(&mut self.list, prepared);

@@ -1,19 +1,20 @@
 //! Sheets come, go, get other names and stand at other indexes.
-ghost use Rattle.std.specs.Prelude.{◌≡◌, ◌<◌, ◌≤◌, ◌++◌, ℕ, List, [], ◌∷◌, Some, None, OnOk, OnErr, bytes_eq, chars, cond, false, true, insert, length, map, nat_eq, option_map, remove, string_bytes};
+ghost use Rattle.std.specs.Prelude.{◌≡◌, ◌<◌, ◌≤◌, ◌++◌, ℕ, List, [], ◌∷◌, Some, None, OnOk, OnErr, bytes_eq, chars, cond, false, true, insert, is_some, length, map, nat_eq, option_map, remove, string_bytes};
 ghost use Rattle.std.specs.BTreeMap.{get, get_by_text};
-ghost use Rattle.std.specs.List.{list_any};
+ghost use Rattle.std.specs.List.{IsDistinct, list_any};
 ghost use Rattle.std.specs.Ordering.{nat_cmp};
 ghost use Rattle.ic_laws.specs.CoreStep.{moved, updated_at};
 ghost use Rattle.ic_laws.specs.Name.{agrees};
-ghost use Rattle.ic_sheets.specs.Index.{FindsSheets, StillFinds, lowered, moved_index, other_than};
+ghost use Rattle.ic_sheets.specs.Index.{AreAtIndexes, AreAtOthers, FindsSheets, Follow, IsFoundBy, LosesName, StillFinds, lowered, moved_index, other_than};
 ghost use Rattle.ic_sheets.specs.Sheet.{empty_grid, plain_tab};
 
 use super::dangling::{dangles, settle};
-use super::{Sheets, folded, greatest_of};
+use super::{Sheets, folded, greatest_in};
 use crate::{Sheet, Tab};
 use ic_grid::Grid;
 use ic_laws::{OutOfMemory, Text};
 use ic_pool::Pool;
+use std::alloc::Global;
 use std::collections::BTreeMap;
 
 impl Sheets {
@@ -143,11 +144,11 @@ impl Sheets {
         let sheet = &self.list[index];
         let id = sheet.id;
         settle(&mut self.dangling, id, dangles(sheet), false);
-        take_key(ids, id);
+        take_key(self.alloc, ids, sheet.name.as_str(), id);
         self.indexes.remove(&id);
-        lower_indexes(&mut self.indexes, index);
         self.list.remove(index);
-        self.greatest = greatest_of(&self.list);
+        lower_indexes(&mut self.indexes, &self.list, index);
+        self.greatest = greatest_in(&self.indexes);
     }
 
     /// Puts the sheet at an index to another, both from 0; the others keep their order. It takes no memory.
@@ -159,10 +160,21 @@ impl Sheets {
         // What finds them by their names still does.
         ensures finds { StillFinds self.old self.new }
     {
-        move_indexes(&mut self.indexes, from, to);
-        let sheet = self.list.remove(from);
-        // There is room for it, where it was.
-        let _ = self.list.insert(to, sheet);
+        shift(&mut self.list, from, to);
+        move_indexes(&mut self.indexes, &self.list, from, to);
+    }
+}
+
+/// Puts the sheet at an index to another, both from 0; those between stand one further or one before.
+fn shift(sheets: &mut [Sheet], from: usize, to: usize)
+    requires from { from < length sheets.old }
+    requires to { to < length sheets.old }
+    ensures { sheets.new ≡ moved from to sheets.old }
+{
+    if from < to {
+        sheets[from..to + 1].rotate_left(1);
+    } else {
+        sheets[to..from + 1].rotate_right(1);
     }
 }
 
@@ -176,15 +188,43 @@ fn put_id(ids: &mut BTreeMap<String, u32>, key: String, id: u32) -> Result<(), O
     Ok(())
 }
 
-/// Takes the key of an id out. It takes no memory.
-fn take_key(ids: &mut BTreeMap<String, u32>, id: u32)
+/// Takes the key of this name out, by which alone this id is found. It takes no memory: where there is none for the key,
+/// all ids are looked at.
+fn take_key(alloc: Global, ids: &mut BTreeMap<String, u32>, name: &str, id: u32)
+    requires { IsFoundBy (chars name.now) id ids.old }
+    ensures { LosesName (chars name.now) ids.old ids.new }
+{
+    match folded(alloc, name) {
+        Ok(key) => {
+            ids.remove(key.as_str());
+        }
+        Err(_) => take_id(ids, id),
+    }
+}
+
+/// Takes the keys of an id out. It takes no memory.
+fn take_id(ids: &mut BTreeMap<String, u32>, id: u32)
     ensures { (q : List ℕ) → get_by_text ids.new q ≡ other_than id (get_by_text ids.old q) }
 {
     ids.retain(|_, found| *found != id);
 }
 
-/// The indexes after the one that is taken away are lowered by one.
-fn lower_indexes(indexes: &mut BTreeMap<u32, usize>, index: usize)
+/// The indexes of these sheets after the one that was taken away are lowered by one.
+fn lower_indexes(indexes: &mut BTreeMap<u32, usize>, sheets: &[Sheet], index: usize)
+    requires differ { IsDistinct nat_eq (map (λ s. s.id) sheets.now) }
+    requires follow { Follow (lowered index) indexes.old sheets.now }
+    ensures { AreAtIndexes indexes.new sheets.now }
+{
+    let count = sheets.len();
+    if is_few(count.saturating_sub(index), count) {
+        renumber(indexes, sheets, index, count);
+    } else {
+        lower_all(indexes, index);
+    }
+}
+
+/// All indexes after this one are lowered by one.
+fn lower_all(indexes: &mut BTreeMap<u32, usize>, index: usize)
     ensures { (id : ℕ) → get nat_cmp indexes.new id
         ≡ option_map (lowered index) (get nat_cmp indexes.old id) }
 {
@@ -194,8 +234,25 @@ fn lower_indexes(indexes: &mut BTreeMap<u32, usize>, index: usize)
     });
 }
 
-/// The indexes follow the sheet that is put from one to another.
-fn move_indexes(indexes: &mut BTreeMap<u32, usize>, from: usize, to: usize)
+/// The indexes follow the one of these sheets that was put from one to another.
+fn move_indexes(indexes: &mut BTreeMap<u32, usize>, sheets: &[Sheet], from: usize, to: usize)
+    requires from { from < length sheets.now }
+    requires to { to < length sheets.now }
+    requires differ { IsDistinct nat_eq (map (λ s. s.id) sheets.now) }
+    requires follow { Follow (moved_index from to) indexes.old sheets.now }
+    ensures { AreAtIndexes indexes.new sheets.now }
+{
+    let low = from.min(to);
+    let end = from.max(to) + 1;
+    if is_few(end - low, sheets.len()) {
+        renumber(indexes, sheets, low, end);
+    } else {
+        move_all(indexes, from, to);
+    }
+}
+
+/// All indexes follow the sheet that is put from one to another.
+fn move_all(indexes: &mut BTreeMap<u32, usize>, from: usize, to: usize)
     ensures { (id : ℕ) → get nat_cmp indexes.new id
         ≡ option_map (moved_index from to) (get nat_cmp indexes.old id) }
 {
@@ -203,6 +260,33 @@ fn move_indexes(indexes: &mut BTreeMap<u32, usize>, from: usize, to: usize)
         *place = moved_index(*place, from, to);
         true
     });
+}
+
+/// Whether so many of all sheets are sooner gone over by their ids, one by one, than the look-up from end to end.
+fn is_few(some: usize, all: usize) -> bool {
+    some < all / 8
+}
+
+/// The sheets from one index up to another get the index at which they stand. The others have theirs.
+fn renumber(indexes: &mut BTreeMap<u32, usize>, sheets: &[Sheet], from: usize, to: usize)
+    requires within { to ≤ length sheets.now }
+    requires differ { IsDistinct nat_eq (map (λ s. s.id) sheets.now) }
+    requires others { AreAtOthers from to indexes.old sheets.now }
+    ensures { AreAtIndexes indexes.new sheets.now }
+{
+    for index in from..to {
+        put_index(indexes, sheets[index].id, index);
+    }
+}
+
+/// Puts an index over the one at an id. It takes no memory.
+fn put_index(indexes: &mut BTreeMap<u32, usize>, id: u32, index: usize)
+    requires { is_some (get nat_cmp indexes.old id) ≡ true }
+    ensures { (q : ℕ) → get nat_cmp indexes.new q
+        ≡ cond (nat_eq id q) (Some index) (get nat_cmp indexes.old q) }
+{
+    // There is one at the id, so that there is room.
+    let _ = indexes.insert(id, index);
 }
 
 /// An index, lowered by one where it is past this one.

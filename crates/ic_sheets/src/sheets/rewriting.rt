@@ -3,6 +3,7 @@
 ghost use Rattle.std.specs.Prelude.{◌≡◌, IfOk, Some, true, map, nat_eq};
 ghost use Rattle.std.specs.List.{AllByRecursion, IsDistinct};
 ghost use Rattle.ic_pool.specs.Remade.{LeavesUntouched};
+ghost use Rattle.ic_pool.specs.Rewrites.{changes_nothing};
 ghost use Rattle.ic_sheets.specs.Index.{AreAtIndexes, is_id};
 ghost use Rattle.ic_sheets.specs.Remade.{AreRemade};
 ghost use Rattle.ic_sheets.specs.Rewriting.{ArePrepared, FitOwn, FitSheets, PreparesEach, with_all_rewrites, with_own_rewrites};
@@ -24,9 +25,9 @@ pub fn prepare<C: BookChange>(
     ensures { IfOk result (λ prepared. ArePrepared (C.change change.now) prepared.items
         sheets.now) }
 {
-    let mut prepared = Vec::new(alloc);
+    let mut prepared = Vec::with_capacity(alloc, sheets.len())?;
     for sheet in sheets {
-        prepared.push(sheet.pool.prepare(change, Some(sheet.id))?)?;
+        prepared.push_reserved(sheet.pool.prepare(change, Some(sheet.id))?);
     }
     Ok(prepared)
 }
@@ -65,11 +66,23 @@ pub fn prepare_remade<R: Remaking>(
         (Some s.id)) s.pool.formulas) sheets.now }
     ensures { IfOk result (λ prepared. AreRemade (R.made remaking.now) prepared.items sheets.now) }
 {
-    let mut prepared = Vec::new(alloc);
+    let mut prepared = Vec::with_capacity(alloc, sheets.len())?;
     for sheet in sheets {
-        prepared.push(sheet.pool.prepare_remade(remaking, Some(sheet.id))?)?;
+        prepared.push_reserved(sheet.pool.prepare_remade(remaking, Some(sheet.id))?);
     }
     Ok(prepared)
+}
+
+/// Whether nothing that was prepared makes a formula another.
+pub fn change_nothing(prepared: &[Rewrites]) -> bool
+    ensures { result ≡ true → AllByRecursion (λ w. changes_nothing w ≡ true) prepared.now }
+{
+    for rewrites in prepared {
+        if !rewrites.is_empty() {
+            return false;
+        }
+    }
+    true
 }
 
 /// Does to the formulas of each sheet what was prepared for it, from the last one on. Sheets past the end stay.

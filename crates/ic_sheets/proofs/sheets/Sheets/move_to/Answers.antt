@@ -1,42 +1,105 @@
-use Rattle.std.proofs.Common.{◌≡◌, ◌<◌, ◌∙◌, ap, sym, subst, arith, length, if◌then◌else◌}
-use Rattle.std.proofs.lemmas.List.Edits.{length-insert, length-remove}
-use Rattle.std.specs.List.{insert, remove}
+use Rattle.std.proofs.Common.{◌≡◌, ◌<◌, ◌∙◌, ap, sym, subst, arith, length, nat_eq}
+use Rattle.std.specs.List.{IsDistinct}
 use Rattle.ic_laws.specs.CoreStep.{moved}
 use Rattle.ic_sheets.proofs.DanglingLemmas.{dangling_moved}
-use Rattle.ic_sheets.proofs.KeptLemmas.{kept_moved, moved_is}
-use Rattle.ic_sheets.proofs.PlaceLemmas.{placed_moved}
-use Rattle.ic_sheets.proofs.KeptLemmas.{finds_moved}
-use Rattle.ic_sheets.specs.Index.{FindsSheets}
+use Rattle.ic_sheets.proofs.KeptLemmas.{finds_moved, kept_moved, length_moved, moved_is, taken}
+use Rattle.ic_sheets.proofs.PlaceLemmas.{moved_follow}
+use Rattle.ic_sheets.proofs.SearchLemmas.{ids}
+use Rattle.ic_sheets.proofs.ShiftLemmas.{whole_back}
+use Rattle.ic_sheets.specs.Index.{AreAtIndexes, FindsSheets, Follow, moved_index}
 use Rattle.ic_sheets.proofs.sheets.Sheets.move_to.Goals as goal
-use Rattle.ic_sheets.proofs.sheets.Sheets.move_to.Goals.{Joined-insert}
 
--- there is room for the sheet
-put : (c : Joined-insert) → c.insert.new.self.items ≡ insert (remove c.self.inside.list.items c.args.from) c.args.to c.remove-sheet.result
-put c =
-    let list = c.self.inside.list in
-    let room = c.insert.ensures.succeeds (omega (arith, list.ok.0, list.ok.1, c.remove-sheet.ensures.len, c.remove-sheet.ensures.capacity)) in
-    c.insert.ensures.items ∙ ap (λ b. if b then insert c.remove-sheet.new.self.items c.args.to c.remove-sheet.result else c.remove-sheet.new.self.items) room
-    ∙ ap (λ xs. insert xs c.args.to c.remove-sheet.result) c.remove-sheet.ensures.items
+pub shift-requires-clause-from : goal.shift-requires-clause-from
+shift-requires-clause-from c = subst (λ xs. c.args.from < length xs) (sym (c.deref_mut.ensures.value ∙ c.self.view_is)) c.requires.from
+
+pub shift-requires-clause-to : goal.shift-requires-clause-to
+shift-requires-clause-to c = subst (λ xs. c.args.to < length xs) (sym (c.deref_mut.ensures.value ∙ c.self.view_is)) c.requires.to
+
+pub move_indexes-requires-clause-from : goal.move_indexes-requires-clause-from
+move_indexes-requires-clause-from c =
+    let sheets = c.self.inside.list.items in
+    let lt : c.args.from < length sheets = subst (λ xs. c.args.from < length xs) (sym c.self.view_is) c.requires.from in
+    let within : c.args.to < length sheets = subst (λ xs. c.args.to < length xs) (sym c.self.view_is) c.requires.to in
+    let one = taken sheets c.args.from lt in
+    let is : c.shift.new.sheets ≡ moved c.args.from c.args.to sheets = c.shift.ensures ∙ ap (moved c.args.from c.args.to) c.deref_mut.ensures.value in
+    let count = length_moved sheets c.args.from c.args.to lt within in
+    let list = whole_back c.self.inside.list.len sheets c.shift.new.sheets (ap length is ∙ count) c.self.inside.list.ok.0 ∙ is in
+    let put = list ∙ sym (moved_is sheets c.args.from c.args.to one.sheet lt one.read) in
+    subst (λ n. c.args.from < n) (sym (ap length (c.deref.ensures.value ∙ list) ∙ count)) lt
+
+pub move_indexes-requires-clause-to : goal.move_indexes-requires-clause-to
+move_indexes-requires-clause-to c =
+    let sheets = c.self.inside.list.items in
+    let lt : c.args.from < length sheets = subst (λ xs. c.args.from < length xs) (sym c.self.view_is) c.requires.from in
+    let within : c.args.to < length sheets = subst (λ xs. c.args.to < length xs) (sym c.self.view_is) c.requires.to in
+    let one = taken sheets c.args.from lt in
+    let is : c.shift.new.sheets ≡ moved c.args.from c.args.to sheets = c.shift.ensures ∙ ap (moved c.args.from c.args.to) c.deref_mut.ensures.value in
+    let count = length_moved sheets c.args.from c.args.to lt within in
+    let list = whole_back c.self.inside.list.len sheets c.shift.new.sheets (ap length is ∙ count) c.self.inside.list.ok.0 ∙ is in
+    let put = list ∙ sym (moved_is sheets c.args.from c.args.to one.sheet lt one.read) in
+    subst (λ n. c.args.to < n) (sym (ap length (c.deref.ensures.value ∙ list) ∙ count)) within
+
+pub move_indexes-requires-clause-differ : goal.move_indexes-requires-clause-differ
+move_indexes-requires-clause-differ c =
+    let sheets = c.self.inside.list.items in
+    let lt : c.args.from < length sheets = subst (λ xs. c.args.from < length xs) (sym c.self.view_is) c.requires.from in
+    let within : c.args.to < length sheets = subst (λ xs. c.args.to < length xs) (sym c.self.view_is) c.requires.to in
+    let one = taken sheets c.args.from lt in
+    let is : c.shift.new.sheets ≡ moved c.args.from c.args.to sheets = c.shift.ensures ∙ ap (moved c.args.from c.args.to) c.deref_mut.ensures.value in
+    let count = length_moved sheets c.args.from c.args.to lt within in
+    let list = whole_back c.self.inside.list.len sheets c.shift.new.sheets (ap length is ∙ count) c.self.inside.list.ok.0 ∙ is in
+    let put = list ∙ sym (moved_is sheets c.args.from c.args.to one.sheet lt one.read) in
+    subst (λ xs. IsDistinct nat_eq (ids xs)) (sym c.deref.ensures.value) (kept_moved c.self.inside.greatest sheets _ c.args.from c.args.to one.sheet c.self.invariant.0 lt one.read put).ids_differ
+
+pub move_indexes-requires-clause-follow : goal.move_indexes-requires-clause-follow
+move_indexes-requires-clause-follow c =
+    let sheets = c.self.inside.list.items in
+    let lt : c.args.from < length sheets = subst (λ xs. c.args.from < length xs) (sym c.self.view_is) c.requires.from in
+    let within : c.args.to < length sheets = subst (λ xs. c.args.to < length xs) (sym c.self.view_is) c.requires.to in
+    let one = taken sheets c.args.from lt in
+    let is : c.shift.new.sheets ≡ moved c.args.from c.args.to sheets = c.shift.ensures ∙ ap (moved c.args.from c.args.to) c.deref_mut.ensures.value in
+    let count = length_moved sheets c.args.from c.args.to lt within in
+    let list = whole_back c.self.inside.list.len sheets c.shift.new.sheets (ap length is ∙ count) c.self.inside.list.ok.0 ∙ is in
+    let put = list ∙ sym (moved_is sheets c.args.from c.args.to one.sheet lt one.read) in
+    subst (Follow (moved_index c.args.from c.args.to) c.self.inside.indexes) (sym c.deref.ensures.value)
+    (moved_follow sheets c.args.from one.sheet c.self.invariant.0.ids_differ lt one.read c.self.inside.indexes _ c.args.to c.self.invariant.1 within put)
 
 pub invariant_of-self : goal.invariant_of-self
 invariant_of-self c =
     let sheets = c.self.inside.list.items in
     let lt : c.args.from < length sheets = subst (λ xs. c.args.from < length xs) (sym c.self.view_is) c.requires.from in
-    let within : c.args.to < length sheets = subst (λ xs. c.args.to < length xs) (sym c.self.view_is) c.requires.to in (
-      kept_moved c.self.inside.greatest sheets c.insert.new.self.items c.args.from c.args.to c.remove-sheet.result c.self.invariant.0 lt c.remove-sheet.ensures.value (put c),
-      placed_moved sheets c.args.from c.remove-sheet.result c.self.invariant.0.ids_differ lt c.remove-sheet.ensures.value c.self.inside.indexes c.move_indexes.new.indexes c.insert.new.self.items c.args.to c.self.invariant.1 within (put c) c.move_indexes.ensures,
-      dangling_moved c.self.inside.dangling.items sheets c.args.from c.remove-sheet.result c.self.invariant.2 c.self.invariant.0.ids_differ lt c.remove-sheet.ensures.value c.insert.new.self.items c.args.to (put c),
-      omega (arith, c.self.invariant.3, ap length (put c), length-insert (remove sheets c.args.from) c.args.to c.remove-sheet.result, length-remove sheets c.args.from lt),
+    let within : c.args.to < length sheets = subst (λ xs. c.args.to < length xs) (sym c.self.view_is) c.requires.to in
+    let one = taken sheets c.args.from lt in
+    let is : c.shift.new.sheets ≡ moved c.args.from c.args.to sheets = c.shift.ensures ∙ ap (moved c.args.from c.args.to) c.deref_mut.ensures.value in
+    let count = length_moved sheets c.args.from c.args.to lt within in
+    let list = whole_back c.self.inside.list.len sheets c.shift.new.sheets (ap length is ∙ count) c.self.inside.list.ok.0 ∙ is in
+    let put = list ∙ sym (moved_is sheets c.args.from c.args.to one.sheet lt one.read) in (
+      kept_moved c.self.inside.greatest sheets _ c.args.from c.args.to one.sheet c.self.invariant.0 lt one.read put,
+      subst (AreAtIndexes c.move_indexes.new.indexes) c.deref.ensures.value c.move_indexes.ensures,
+      dangling_moved c.self.inside.dangling.items sheets c.args.from one.sheet c.self.invariant.2 c.self.invariant.0.ids_differ lt one.read _ c.args.to put,
+      omega (arith, c.self.invariant.3, ap length list, count),
     )
 
 pub returns-clause-moved : goal.returns-clause-moved
 returns-clause-moved c =
     let sheets = c.self.inside.list.items in
     let lt : c.args.from < length sheets = subst (λ xs. c.args.from < length xs) (sym c.self.view_is) c.requires.from in
-    put c ∙ moved_is sheets c.args.from c.args.to c.remove-sheet.result lt c.remove-sheet.ensures.value ∙ ap (moved c.args.from c.args.to) c.self.view_is
+    let within : c.args.to < length sheets = subst (λ xs. c.args.to < length xs) (sym c.self.view_is) c.requires.to in
+    let one = taken sheets c.args.from lt in
+    let is : c.shift.new.sheets ≡ moved c.args.from c.args.to sheets = c.shift.ensures ∙ ap (moved c.args.from c.args.to) c.deref_mut.ensures.value in
+    let count = length_moved sheets c.args.from c.args.to lt within in
+    let list = whole_back c.self.inside.list.len sheets c.shift.new.sheets (ap length is ∙ count) c.self.inside.list.ok.0 ∙ is in
+    let put = list ∙ sym (moved_is sheets c.args.from c.args.to one.sheet lt one.read) in
+    list ∙ ap (moved c.args.from c.args.to) c.self.view_is
 
 pub returns-clause-finds : goal.returns-clause-finds
 returns-clause-finds c = λ index finds.
     let sheets = c.self.inside.list.items in
     let lt : c.args.from < length sheets = subst (λ xs. c.args.from < length xs) (sym c.self.view_is) c.requires.from in
-    finds_moved index c.self.inside.greatest sheets c.insert.new.self.items c.args.from c.args.to c.remove-sheet.result c.self.invariant.0 (subst (FindsSheets index) (sym c.self.view_is) finds) lt c.remove-sheet.ensures.value (put c)
+    let within : c.args.to < length sheets = subst (λ xs. c.args.to < length xs) (sym c.self.view_is) c.requires.to in
+    let one = taken sheets c.args.from lt in
+    let is : c.shift.new.sheets ≡ moved c.args.from c.args.to sheets = c.shift.ensures ∙ ap (moved c.args.from c.args.to) c.deref_mut.ensures.value in
+    let count = length_moved sheets c.args.from c.args.to lt within in
+    let list = whole_back c.self.inside.list.len sheets c.shift.new.sheets (ap length is ∙ count) c.self.inside.list.ok.0 ∙ is in
+    let put = list ∙ sym (moved_is sheets c.args.from c.args.to one.sheet lt one.read) in
+    finds_moved index c.self.inside.greatest sheets _ c.args.from c.args.to one.sheet c.self.invariant.0 (subst (FindsSheets index) (sym c.self.view_is) finds) lt one.read put

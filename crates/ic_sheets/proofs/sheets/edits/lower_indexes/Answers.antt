@@ -1,11 +1,11 @@
-use Rattle.std.proofs.Common.{rules}
-use Rattle.std.specs.BTreeMap.{is_at}
-use Rattle.std.specs.Ordering.{nat_cmp}
-use Rattle.std.proofs.lemmas.Map.Made.{lookup-map_values, map_same_pairs}
+use Rattle.std.proofs.Common.{◌∙◌, length}
 use Rattle.ic_sheets.specs.Index.{lowered}
+use Rattle.ic_sheets.proofs.FollowLemmas.{lowered_stays, others_follow}
 use Rattle.ic_sheets.proofs.sheets.edits.lower_indexes.Goals as goal
 
-pub returns : goal.returns
-returns c =
-    let e = map_same_pairs _ (lowered c.args.index) _ (λ k v b w f' t. search rules) _ _ c.retain.ensures.filtered in
-    λ q. rw e (lookup-map_values (lowered c.args.index) (is_at (nat_cmp q)) c.args.indexes.now.entries)
+pub renumber-requires-clause-others : goal.renumber-requires-clause-others
+renumber-requires-clause-others c =
+    others_follow (lowered c.args.index) c.args.index (length c.args.sheets.now) c.args.indexes.now c.args.sheets.now (λ p within out. lowered_stays c.args.index (length c.args.sheets.now) p within out) c.requires.follow
+
+pub returns-else-is_few : goal.returns-else-is_few
+returns-else-is_few c = record { finds = λ q. c.lower_all.ensures q ∙ c.requires.follow q }

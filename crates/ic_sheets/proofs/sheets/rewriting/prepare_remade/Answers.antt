@@ -1,4 +1,4 @@
-use Rattle.std.proofs.Common.{Some, subst, sym}
+use Rattle.std.proofs.Common.{◌∙◌, Some, arith, subst, sym}
 use Rattle.std.proofs.lemmas.List.Elements.{All-from_recursion}
 use Rattle.std.specs.List.{AllByRecursion}
 use Rattle.ic_pool.specs.Remade.{LeavesUntouched}
@@ -13,6 +13,9 @@ prepare_remade-requires g c =
     (All-from_recursion _ c.args.sheets.now c.requires c.loop-sheet.sheet-index c.sheet-item.result c.loop-sheet-test.true)
 
 pub loop-sheet-preserved : goal.loop-sheet-preserved
-loop-sheet-preserved g c =
-    each_next (IsRemade (g.R.Remaking.made c.args.remaking.now)) c.loop-sheet.prepared.items c.push.new.self.items c.in_ok-prepare_remade.field-0 c.args.sheets.now c.loop-sheet.sheet-index c.sheet-item.result
-    c.loop-sheet-test.true c.sheet-item.is c.in_ok-push.ensures.items c.loop-sheet.invariant (record { made = c.in_ok-prepare_remade.ensures.made; listed = c.in_ok-prepare_remade.ensures.listed; fits = c.in_ok-prepare_remade.ensures.fits })
+loop-sheet-preserved g c = record {
+  each = each_next (IsRemade (g.R.Remaking.made c.args.remaking.now)) c.loop-sheet.prepared.items c.push_reserved.new.self.items c.in_ok-prepare_remade.field-0 c.args.sheets.now c.loop-sheet.sheet-index c.sheet-item.result
+      c.loop-sheet-test.true c.sheet-item.is c.push_reserved.ensures.items c.loop-sheet.invariant.each (record { made = c.in_ok-prepare_remade.ensures.made; listed = c.in_ok-prepare_remade.ensures.listed; fits = c.in_ok-prepare_remade.ensures.fits });
+  few = omega (arith, c.push_reserved.ensures.len, c.loop-sheet.invariant.few);
+  room = c.push_reserved.ensures.capacity ∙ c.loop-sheet.invariant.room;
+}
