@@ -15,6 +15,7 @@ pub mod ReachedLemmas
 pub mod ReleaseLemmas
 pub mod RoomLemmas
 pub mod RowLemmas
+pub mod RunLemmas
 pub mod SoughtLemmas
 pub mod SpillAllowed
 pub mod SpillCells
