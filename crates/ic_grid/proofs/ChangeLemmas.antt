@@ -1,24 +1,24 @@
 -- The cells of a block are made into others, one after another.
 use Rattle.std.proofs.Common.{◌≡◌, ◌∙◌, refl, sym, ap, subst, ℕ, ◌+◌, ◌*◌, ◌<◌, ℤ, pos, Bool, true, false, cond, not, ◌&&◌, ◌⊎◌, inl, inr, Option, Some, None, arith}
-use Rattle.std.proofs.lemmas.Bool.{and_from}
+use Rattle.std.proofs.lemmas.Bool.{and_parts, and_from, both_ways}
 use Rattle.std.proofs.lemmas.Int.{ints}
 use Rattle.std.specs.FinMap as finite
-use Rattle.std.specs.Option.{option_and_then, option_map, unwrap_or}
+use Rattle.std.specs.Option.{IfSome, option_and_then, option_map, unwrap_or}
 use Rattle.std.specs.Ordering.{int_eq}
 use Rattle.std.specs.Prelude.{int_lt, ◌+ℤ◌, ◌-ℤ◌, ◌≤ℤ◌, ◌<ℤ◌}
 use Rattle.std.proofs.Math.IntN.{nat_abs}
 use Rattle.std.proofs.Common.{negsuc}
 use Rattle.ic_cells.specs.declared.cell.Cell.{Cell}
 use Rattle.ic_laws.proofs.core.CellWritten.{place_cmp_total}
-use Rattle.ic_grid.proofs.BlockLemmas.{Bounds, area_bounds}
-use Rattle.ic_grid.proofs.ContentsLemmas.{get-remade, get_with, remade_alike, same_contents, same_is}
-use Rattle.ic_grid.proofs.WalkLemmas.{InBlock, by_side, from_row, in_block}
+use Rattle.ic_grid.proofs.BlockLemmas.{Bounds, area_bounds, same_by_parts}
+use Rattle.ic_grid.proofs.ContentsLemmas.{get-remade, get_with, remade_alike, remade_twice, same_contents, same_is}
+use Rattle.ic_grid.proofs.WalkLemmas.{InBlock, by_side, from_itself, from_row, in_block}
 use Rattle.ic_grid.specs.Block.{Place, first_place, has_next_column, is_area, is_in_block, next_place, same_place}
 use Rattle.ic_grid.specs.Change.{changed, changed_at, is_placeholder, remade_where}
 use Rattle.ic_grid.specs.Shape.{celled, emptied}
 use Rattle.ic_grid.specs.declared.changes.Change.TheVariants as changes
 use Rattle.ic_grid.specs.Contents.{Contents, with_or_without}
-use Rattle.ic_grid.specs.Walk.{HasNoneIn, is_from, right_of}
+use Rattle.ic_grid.specs.Walk.{HasNoneIn, IsFirstIn, IsNextIn, is_from, right_of}
 use Rattle.ic_grid.specs.declared.block.Block.{Block}
 
 module _ {X : Type 0} (m : Contents X) (p : Place) where
@@ -69,7 +69,7 @@ unfolding is_from
 first_from b q i = grind (arith, ints, i.top, i.left)
 
 -- the next place by rows: in the same row, or the first of the next one
-pub next_is : (b : Block) (p : Place) (t : Bool) → has_next_column b p ≡ t → next_place b p ≡ cond t (right_of p) (p.0 +ℤ pos 1, b.column)
+next_is : (b : Block) (p : Place) (t : Bool) → has_next_column b p ≡ t → next_place b p ≡ cond t (right_of p) (p.0 +ℤ pos 1, b.column)
 next_is b p t e = ap (λ u. let n : Place = cond u (right_of p) (p.0 +ℤ pos 1, b.column) in n) e
 
 -- of the places of a block, those behind it are those behind the place to the right
@@ -77,7 +77,7 @@ next_row_is : (b : Block) (p q : Place) → InBlock b p → InBlock b q → has_
 unfolding is_from
 next_row_is b p q i j e = grind (arith, ints, e, i.right, j.left, j.right)
 
-pub next_from_is : (b : Block) (p q : Place) → InBlock b p → InBlock b q → is_from (next_place b p) q ≡ is_from (right_of p) q
+next_from_is : (b : Block) (p q : Place) → InBlock b p → InBlock b q → is_from (next_place b p) q ≡ is_from (right_of p) q
 next_from_is b p q i j =
     by_side (has_next_column b p) (λ t. ap (λ (n : Place). is_from n q) (next_is b p true t)) (λ t. ap (λ (n : Place). is_from n q) (next_is b p false t) ∙ next_row_is b p q i j t)
 
@@ -106,7 +106,7 @@ module _ {X : Type 0} (m : Contents X) (b : Block) (f : X → Option X) where
       none q (Some x) = passes (walked (first_place b) q) x (unwalked q)
 
   module _ (at : Place) (cells : Contents X) (so_far : cells ≡ remade_where (walked at) f m) where
-    pub unwalked_there : (q : Place) (x : X) → finite.get m q ≡ Some x → walked at q ≡ false → finite.get cells q ≡ Some x
+    unwalked_there : (q : Place) (x : X) → finite.get m q ≡ Some x → walked at q ≡ false → finite.get cells q ≡ Some x
     unwalked_there q x e w =
         ap (λ (c : Contents X). finite.get c q) so_far ∙ get-remade _ m q ∙ ap (option_and_then (λ y. cond (walked at q) (f y) (Some y))) e ∙ sym (passes (walked at q) x w)
 
@@ -127,6 +127,57 @@ module _ {X : Type 0} (m : Contents X) (b : Block) (f : X → Option X) where
                     let w : walked at q ≡ false = and_true (is_in_block b q) _ false t (ap not s) in
                     let never : None ≡ Some x = sym (none q (and_from (is_in_block b q) (is_from at q) t s)) ∙ unwalked_there q x e w in
                     cc
+
+    module _ (p : Place) (next : IsNextIn cells b at p) (after : Contents X) (is : after ≡ remade_where (λ q. same_place q p) f cells) where
+      twice : (w s v : Bool) (x : X) → (w ≡ true → s ≡ false) → (w ≡ true → v ≡ true) → (w ≡ false → v ≡ s) → option_and_then (λ y. cond s (f y) (Some y)) (cond w (f x) (Some x)) ≡ cond v (f x) (Some x)
+      twice true s v x h k l =
+          ap (λ t. option_and_then (λ y. cond t (f y) (Some y)) (f x)) (h refl) ∙ same (f x) ∙ ap (λ t. cond t (f x) (Some x)) (sym (k refl))
+        where
+          same : (o : Option X) → option_and_then (λ (y : X). Some y) o ≡ o
+          same None = refl
+          same (Some y) = refl
+      twice false s v x h k l = ap (λ t. cond t (f x) (Some x)) (sym (l refl))
+
+      apart : (q : Place) → walked at q ≡ true → same_place q p ≡ false
+      apart q w =
+          by_side (same_place q p)
+          (λ t. absurd (both_ways (is_from at q) (negated (is_from at q) (and_parts (is_in_block b q) (not (is_from at q)) w).1) (ap (is_from at) (same_is q p t) ∙ next.behind)))
+          (λ t. t)
+        where
+          negated : (s : Bool) → not s ≡ true → s ≡ false
+          negated true e = cc
+          negated false e = refl
+
+      still : (q : Place) → walked at q ≡ true → walked (right_of p) q ≡ true
+      still q w =
+          let both = and_parts (is_in_block b q) (not (is_from at q)) w in
+          and_from (is_in_block b q) (not (is_from (right_of p) q)) both.0 (ap not (right_after at p q (negated (is_from at q) both.1) next.behind))
+        where
+          negated : (s : Bool) → not s ≡ true → s ≡ false
+          negated true e = cc
+          negated false e = refl
+
+      new : (q : Place) (x : X) → finite.get m q ≡ Some x → walked at q ≡ false → walked (right_of p) q ≡ same_place q p
+      new q x e w = by_side (is_in_block b q) inside outside
+        where
+          outside : is_in_block b q ≡ false → walked (right_of p) q ≡ same_place q p
+          outside t =
+              ap (λ s. s && not (is_from (right_of p) q)) t
+              ∙ sym (by_side (same_place q p) (λ s. absurd (both_ways (is_in_block b q) t (ap (is_in_block b) (same_is q p s) ∙ next.within))) (λ s. s))
+
+          inside : is_in_block b q ≡ true → walked (right_of p) q ≡ same_place q p
+          inside t = by_side (is_from at q) left (λ s. absurd (both_ways (walked at q) w (and_from (is_in_block b q) (not (is_from at q)) t (ap not s))))
+            where
+              left : is_from at q ≡ true → walked (right_of p) q ≡ same_place q p
+              left s =
+                  by_side (is_from p q)
+                  (λ u. and_true (is_in_block b q) _ (same_place q p) t (right_is p q u ∙ sym (same_by_parts q p)))
+                  (λ u. let never : None ≡ Some x = sym (next.first q (and_from (is_in_block b q) (is_from at q) t s) u) ∙ unwalked_there q x e w in cc)
+
+      pub walk_more : after ≡ remade_where (walked (right_of p)) f m
+      walk_more =
+          is ∙ ap (remade_where (λ q. same_place q p) f) so_far
+          ∙ remade_twice _ _ _ m (λ q x e. twice (walked at q) (same_place q p) (walked (right_of p) q) x (apart q) (still q) (new q x e))
 
 -- how far a place of a block is from the end
 abbrev pub far : Block → Place → ℕ
@@ -207,6 +258,18 @@ module _ (m : Contents Cell) (p : Place) (t : Bool) (is : t ≡ unwrap_or (optio
 pub walk_begun_at : {X : Type 0} (m : Contents X) (b : Block) (f : X → Option X) (at : Place) → at ≡ first_place b → m ≡ remade_where (walked m b f at) f m
 walk_begun_at m b f at e = subst (λ (p : Place). m ≡ remade_where (walked m b f p) f m) (sym e) (walk_begun m b f)
 
+pub walk_more_at : {X : Type 0} (m : Contents X) (b : Block) (f : X → Option X) (at : Place) (cells : Contents X) → cells ≡ remade_where (walked m b f at) f m → (p : Place) → IsNextIn cells b at p
+    → (after : Contents X) → after ≡ remade_where (λ q. same_place q p) f cells → (next : Place) → next ≡ next_place b p → after ≡ remade_where (walked m b f next) f m
+walk_more_at m b f at cells so_far p first after is next e =
+    subst (λ (n : Place). after ≡ remade_where (walked m b f n) f m) (sym e)
+    (walk_more m b f at cells so_far p first after is ∙ remade_alike _ _ m (λ q x there. ap (λ t. cond t (f x) (Some x)) (walked_next q)))
+  where
+    walked_next : (q : Place) → walked m b f (right_of p) q ≡ walked m b f (next_place b p) q
+    walked_next q =
+        by_side (is_in_block b q)
+        (λ t. ap (λ s. is_in_block b q && not s) (sym (next_from_is b p q (in_block b p first.within) (in_block b q t))))
+        (λ t. ap (λ s. s && not (is_from (right_of p) q)) t ∙ sym (ap (λ s. s && not (is_from (next_place b p) q)) t))
+
 pub nearer_at : (b : Block) (at p : Place) → is_area b ≡ true → b.column ≤ℤ at.1 → is_from at p ≡ true → is_in_block b p ≡ true → (next : Place) → next ≡ right_of p → far b next < far b at
 nearer_at b at p area least after within next e = subst (λ (n : Place). far b n < far b at) (sym e) (nearer b at p area least after within)
 
@@ -238,3 +301,15 @@ next_nearer_at b at p area least after within next e =
         fewer (nat_abs ((b.row +ℤ b.height) -ℤ at.0)) (nat_abs (pos 16386 -ℤ at.1)) (nat_abs ((b.row +ℤ b.height) -ℤ (p.0 +ℤ pos 1))) (nat_abs (pos 16386 -ℤ b.column))
         (inl (less_abs ((b.row +ℤ b.height) -ℤ (p.0 +ℤ pos 1)) ((b.row +ℤ b.height) -ℤ at.0) (omega (arith, ints, k.bottom)) (omega (arith, ints, low))))
         (small_abs (pos 16386 -ℤ b.column) (omega (arith, ints, s.last_column, s.wide)) (omega (arith, ints, s.column)))
+
+-- a place with a cell, before which none stands, and a place itself, are next
+pub some_next : {X : Type 0} (m : Contents X) (b : Block) (at : Place) (r : Option Place) → IfSome r (IsFirstIn m b at) → IfSome r (IsNextIn m b at)
+some_next m b at None h = h
+some_next m b at (Some p) h = record { within = h.within; behind = h.behind; first = h.first }
+
+pub next_itself : {X : Type 0} (m : Contents X) (b : Block) (at : Place) → is_in_block b at ≡ true → IsNextIn m b at at
+next_itself m b at within = record {
+  within = within;
+  behind = from_itself at;
+  first = λ q left before. absurd (both_ways (is_from at q) before (and_parts (is_in_block b q) (is_from at q) left).1);
+}

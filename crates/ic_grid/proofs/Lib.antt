@@ -15,7 +15,6 @@ pub mod ReachedLemmas
 pub mod ReleaseLemmas
 pub mod RoomLemmas
 pub mod RowLemmas
-pub mod RunLemmas
 pub mod SoughtLemmas
 pub mod SpillAllowed
 pub mod SpillCells

@@ -1,12 +1,11 @@
 -- What can become of each cell of a block; and placeholders, which stand where cells are to come.
-use Rattle.std.specs.Prelude.{pos, Bool, false, ◌&&◌, Option, Some, None, if◌then◌else◌}
+use Rattle.std.specs.Prelude.{pos, Bool, false, Option, Some, None, if◌then◌else◌}
 use Rattle.ic_cells.specs.declared.cell.Cell.{Cell}
 use Rattle.ic_cells.specs.declared.cell.Cell.TheVariants as cells
 use Rattle.ic_cells.specs.declared.value.SpillValue.TheVariants as spills
 use Rattle.ic_grid.specs.Block.{Place, is_in_block, same_place}
 use Rattle.ic_grid.specs.Contents.{Contents, remade}
 use Rattle.ic_grid.specs.Shape.{celled, emptied, is_spill_of, shape_of}
-use Rattle.ic_grid.specs.Walk.{is_from}
 use Rattle.ic_grid.specs.declared.block.Block.{Block}
 use Rattle.ic_grid.specs.declared.changes.Change.{Change}
 use Rattle.ic_grid.specs.declared.changes.Change.TheVariants as changes
@@ -39,10 +38,3 @@ changed_at p change m = remade_where (λ q. same_place q p) (changed change) m
 
 abbrev pub changed_in : Block → Change → Contents Cell → Contents Cell
 changed_in b change m = remade_where (is_in_block b) (changed change) m
-
--- a place of a block, by rows from one place up to another
-abbrev pub is_in_run : Block → Place → Place → Place → Bool
-is_in_run b from last q = is_in_block b q && (is_from from q && is_from q last)
-
-abbrev pub changed_run : Block → Place → Place → Change → Contents Cell → Contents Cell
-changed_run b from last change m = remade_where (is_in_run b from last) (changed change) m

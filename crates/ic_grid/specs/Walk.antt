@@ -49,6 +49,12 @@ module _ {X : Type 0} (m : Contents X) where
     pub behind : is_from from p ≡ true
     pub first : (q : Place) → is_left b from q ≡ true → is_from p q ≡ false → finite.get m q ≡ None
 
+  -- a place of a block, from another on, with nothing before it
+  pub record IsNextIn (b : Block) (from p : Place) : Type 0 where
+    pub within : is_in_block b p ≡ true
+    pub behind : is_from from p ≡ true
+    pub first : (q : Place) → is_left b from q ≡ true → is_from p q ≡ false → finite.get m q ≡ None
+
   abbrev pub HasNoneIn : Block → Place → Type 0
   HasNoneIn b from = (q : Place) → is_left b from q ≡ true → finite.get m q ≡ None
 

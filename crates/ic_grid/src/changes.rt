@@ -1,10 +1,10 @@
 //! Changes of cells that are there. They take no memory.
-ghost use Rattle.std.specs.Prelude.{◌≡◌, ◌≤ℤ◌, ◌<ℤ◌, ◌+ℤ◌, ◌≤◌, pos, true, false, IsSome, length, option_map};
+ghost use Rattle.std.specs.Prelude.{◌≡◌, ◌≤ℤ◌, ◌<ℤ◌, ◌+ℤ◌, pos, true, false, IfNone, IfSome, IsSome, length, option_map};
 ghost use Rattle.std.specs.FinMap as finite;
 ghost use Rattle.ic_grid.specs.Block.{first_place, has_next_column, is_area, is_in_block, is_in_lines, next_place, same_place};
-ghost use Rattle.ic_grid.specs.Change.{changed_at, changed_in, changed_run, is_placeholder};
+ghost use Rattle.ic_grid.specs.Change.{changed_at, changed_in, is_placeholder};
 ghost use Rattle.ic_grid.specs.declared.changes.Change.TheVariants as changes;
-ghost use Rattle.ic_grid.specs.Walk.{is_from, right_of};
+ghost use Rattle.ic_grid.specs.Walk.{HasNoneIn, IsNextIn, right_of};
 ghost use Rattle.ic_cells.specs.Cell.{style_of};
 ghost use Rattle.std.specs.Option.{unwrap_or};
 ghost use Rattle.ic_grid.specs.Contents.{changed_where};
@@ -15,7 +15,7 @@ ghost use Rattle.ic_grid.specs.Shape.{celled, emptied};
 use crate::Block;
 use crate::arrays::formula_array;
 use crate::block::is_same;
-use crate::walk::{next_in, run_length};
+use crate::walk::next_in;
 use crate::whole::is_spill_of;
 use ic_cells::{ArrayValue, Cell, PlaceMap};
 
@@ -143,24 +143,29 @@ fn is_placeholder_at(cells: &PlaceMap<Cell>, place: (i32, i32)) -> bool
     }
 }
 
-/// Takes the cell at a place away.
-fn take(cells: &mut PlaceMap<Cell>, place: (i32, i32))
+/// Takes the cell at a place away, and answers whether one stood there.
+fn take(cells: &mut PlaceMap<Cell>, place: (i32, i32)) -> bool
     ensures { cells.new ≡ changed_at place changes.Take cells.old }
 {
-    cells.remove(place.0, place.1);
+    let taken = cells.remove(place.0, place.1);
+    taken.is_some()
 }
 
-/// Empties the cell at a place.
-fn empty(cells: &mut PlaceMap<Cell>, place: (i32, i32))
+/// Empties the cell at a place, and answers whether one stands there.
+fn empty(cells: &mut PlaceMap<Cell>, place: (i32, i32)) -> bool
     ensures { cells.new ≡ changed_at place changes.Empty cells.old }
 {
-    if let Some(cell) = cells.get_mut(place.0, place.1) {
-        empty_cell(cell);
+    match cells.get_mut(place.0, place.1) {
+        Some(cell) => {
+            empty_cell(cell);
+            true
+        }
+        None => false,
     }
 }
 
-/// Changes the cell at a place.
-fn change_at(cells: &mut PlaceMap<Cell>, place: (i32, i32), change: Change)
+/// Changes the cell at a place, and answers whether it did.
+fn change_at(cells: &mut PlaceMap<Cell>, place: (i32, i32), change: Change) -> bool
     ensures { cells.new ≡ changed_at place change cells.old }
 {
     match change {
@@ -168,12 +173,16 @@ fn change_at(cells: &mut PlaceMap<Cell>, place: (i32, i32), change: Change)
         Change::Empty => empty(cells, place),
         Change::TakePlaceholder => {
             if is_placeholder_at(cells, place) {
-                take(cells, place);
+                take(cells, place)
+            } else {
+                false
             }
         }
         Change::EmptyPlaceholder => {
             if is_placeholder_at(cells, place) {
-                empty(cells, place);
+                empty(cells, place)
+            } else {
+                false
             }
         }
     }
@@ -187,54 +196,31 @@ pub fn right_of(place: (i32, i32)) -> (i32, i32)
     (place.0, place.1 + 1)
 }
 
-/// Changes a run of places of a block, by rows from one on: that place and at most so many more. It answers the last of them.
-/// They are changed from the last to the first, since then few of the cells that stay are moved where many are taken away.
-fn change_run(
-    cells: &mut PlaceMap<Cell>,
-    block: &Block,
-    from: (i32, i32),
-    more: u32,
-    change: Change,
-) -> (i32, i32)
+/// The next place of a block to be changed, from one on: that place itself where `close` says that a cell stood right before
+/// it, since cells mostly stand close, and else the first at which a cell stands.
+fn next_of(cells: &PlaceMap<Cell>, block: &Block, at: (i32, i32), close: bool) -> Option<(i32, i32)>
     requires area { is_area block.now ≡ true }
-    requires within { is_in_block block.now from ≡ true }
-    ensures within { is_in_block block.now result ≡ true }
-    ensures behind { is_from from result ≡ true }
-    ensures changed { cells.new ≡ changed_run block.now from result change cells.old }
+    requires row { block.now.row ≤ℤ at.0 }
+    requires column { block.now.column ≤ℤ at.1 }
+    ensures some { IfSome result (IsNextIn cells.now block.now at) }
+    ensures none { IfNone result (HasNoneIn cells.now block.now at) }
 {
-    let next = next_place(block, from);
-    if more == 0 || !block.has(next) {
-        change_at(cells, from, change);
-        return from;
+    if close && block.has(at) {
+        return Some(at);
     }
-    let last = change_run(cells, block, next, more - 1, change);
-    change_at(cells, from, change);
-    last
+    next_in(cells, block, at)
 }
 
-/// How many places behind one of a block are changed with it: those of the run of cells that begins there, where the last
-/// change has come up to that place, since cells mostly stand close.
-fn run_at(cells: &PlaceMap<Cell>, block: &Block, place: (i32, i32), at: (i32, i32)) -> u32
-    requires area { is_area block.now ≡ true }
-    requires within { is_in_block block.now place ≡ true }
-    ensures { result ≤ 64 }
-{
-    if is_same(place, at) {
-        return run_length(cells, block, place);
-    }
-    0
-}
-
-/// Changes each cell of a block. It looks at the cells that are there alone.
+/// Changes each cell of a block. It looks at the cells that are there, and at one place behind each run of them.
 pub fn change_block(cells: &mut PlaceMap<Cell>, block: &Block, change: Change)
     requires { is_area block.now ≡ true }
     ensures { cells.new ≡ changed_in block.now change cells.old }
 {
     let mut at = block.first();
-    while let Some(place) = next_in(cells, block, at) {
-        let more = run_at(cells, block, place, at);
-        let last = change_run(cells, block, place, more, change);
-        at = next_place(block, last);
+    let mut close = true;
+    while let Some(place) = next_of(cells, block, at, close) {
+        close = change_at(cells, place, change) && is_same(place, at);
+        at = next_place(block, place);
     }
 }
 

@@ -1,5 +1,5 @@
 //! The cells of a block one after another, by rows. Places at which no cell stands aren't looked at.
-ghost use Rattle.std.specs.Prelude.{◌≡◌, ◌≤◌, ◌≤ℤ◌, ◌<ℤ◌, ◌&&◌, pos, true, false, None, IfNone, IfSome};
+ghost use Rattle.std.specs.Prelude.{◌≡◌, ◌≤ℤ◌, ◌<ℤ◌, ◌&&◌, pos, true, false, None, IfNone, IfSome};
 ghost use Rattle.std.specs.BTreeMap as tree;
 ghost use Rattle.std.specs.FinMap as finite;
 ghost use Rattle.ic_cells.specs.Maps.{place_cmp};
@@ -9,8 +9,6 @@ ghost use Rattle.ic_grid.specs.Walk.{HasNone, HasNoneIn, IsFirst, IsFirstIn, IsF
 
 use crate::Block;
 use crate::arrays::is_crossing;
-use crate::block::is_same;
-use crate::changes::next_place;
 use ic_cells::{Cell, PlaceMap};
 use std::collections::BTreeMap;
 
@@ -209,36 +207,4 @@ pub fn has_crossing(cells: &PlaceMap<Cell>, block: &Block) -> bool
         Some(_) => true,
         None => false,
     }
-}
-
-/// The longest run of cells that is looked for.
-const LONGEST: u32 = 64;
-
-/// How many cells stand without a gap behind a place of a block, by rows.
-fn run_on(map: &BTreeMap<(i32, i32), Cell>, block: &Block, from: (i32, i32)) -> u32
-    requires area { is_area block.now ≡ true }
-    requires within { is_in_block block.now from ≡ true }
-    ensures { result ≤ 64 }
-{
-    let mut last = from;
-    let mut more = 0;
-    let mut cells = map.range(from..);
-    cells.next();
-    while let Some((place, _)) = cells.next() {
-        if more == LONGEST || !is_same(*place, next_place(block, last)) || !block.has(*place) {
-            return more;
-        }
-        last = *place;
-        more += 1;
-    }
-    more
-}
-
-/// The same of the cells of a sheet.
-pub fn run_length(cells: &PlaceMap<Cell>, block: &Block, from: (i32, i32)) -> u32
-    requires area { is_area block.now ≡ true }
-    requires within { is_in_block block.now from ≡ true }
-    ensures { result ≤ 64 }
-{
-    run_on(cells.as_map(), block, from)
 }

@@ -1,9 +1,8 @@
 use Rattle.std.proofs.Common.{arith}
 use Rattle.std.proofs.lemmas.Int.{ints}
 use Rattle.ic_grid.proofs.BlockLemmas.{area_bounds}
-use Rattle.ic_grid.proofs.ChangeLemmas.{first_bounds, next_bounds, next_nearer_at, walk_begun_at, walk_done}
-use Rattle.ic_grid.proofs.RunLemmas.{run_walked}
-use Rattle.ic_grid.proofs.WalkLemmas.{from_far, in_block}
+use Rattle.ic_grid.proofs.ChangeLemmas.{first_bounds, next_bounds, next_nearer_at, walk_begun_at, walk_done, walk_more_at}
+use Rattle.ic_grid.proofs.WalkLemmas.{in_block}
 use Rattle.ic_grid.specs.Change.{changed}
 use Rattle.ic_grid.proofs.changes.change_block.Goals as goal
 
@@ -19,29 +18,26 @@ loop-place-init c =
 pub next_place-at-requires-clause-row : goal.next_place-at-requires-clause-row
 next_place-at-requires-clause-row c =
     let b = area_bounds c.args.block.now c.requires in
-    let i = in_block c.args.block.now c.change_run-last.result c.change_run-last.ensures.within in
+    let i = in_block c.args.block.now c.in-Some.place c.in-Some.ensures.some.within in
     omega (arith, ints, b.last_row, i.bottom)
 
 pub next_place-at-requires-clause-column : goal.next_place-at-requires-clause-column
 next_place-at-requires-clause-column c =
     let b = area_bounds c.args.block.now c.requires in
-    let i = in_block c.args.block.now c.change_run-last.result c.change_run-last.ensures.within in
+    let i = in_block c.args.block.now c.in-Some.place c.in-Some.ensures.some.within in
     omega (arith, ints, b.last_column, i.right)
 
 pub loop-place-smaller : goal.loop-place-smaller
 loop-place-smaller c =
-    next_nearer_at c.args.block.now c.loop-place.at c.change_run-last.result c.requires c.loop-place.invariant.column
-    (from_far c.loop-place.at c.in-Some.place c.change_run-last.result c.in-Some.ensures.some.behind c.change_run-last.ensures.behind) c.change_run-last.ensures.within c.next_place-at.result c.next_place-at.ensures
+    next_nearer_at c.args.block.now c.loop-place.at c.in-Some.place c.requires c.loop-place.invariant.column c.in-Some.ensures.some.behind c.in-Some.ensures.some.within c.next_place-at.result c.next_place-at.ensures
 
 pub loop-place-preserved : goal.loop-place-preserved
 loop-place-preserved c =
-    let to = next_bounds c.args.block.now c.change_run-last.result c.change_run-last.ensures.within c.next_place-at.result c.next_place-at.ensures in
+    let to = next_bounds c.args.block.now c.in-Some.place c.in-Some.ensures.some.within c.next_place-at.result c.next_place-at.ensures in
     record {
       row = to.0;
       column = to.1;
-      done =
-          run_walked (changed c.args.change) c.args.block.now c.args.cells.now c.loop-place.at c.loop-place.cells c.loop-place.invariant.done c.in-Some.place c.in-Some.ensures.some c.change_run-last.result
-          c.change_run-last.ensures.within c.change_run-last.ensures.behind c.change_run-last.new.cells c.change_run-last.ensures.changed c.next_place-at.result c.next_place-at.ensures;
+      done = walk_more_at c.args.cells.now c.args.block.now (changed c.args.change) c.loop-place.at c.loop-place.cells c.loop-place.invariant.done c.in-Some.place c.in-Some.ensures.some c.change_at.new.cells c.change_at.ensures c.next_place-at.result c.next_place-at.ensures;
     }
 
 pub returns : goal.returns

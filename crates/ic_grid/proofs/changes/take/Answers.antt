@@ -5,5 +5,5 @@ use Rattle.ic_grid.proofs.changes.take.Goals as goal
 
 pub returns : goal.returns
 returns c =
-    let removed : c.remove.new.self ≡ finite.remove c.args.cells.now c.args.place = search rules in
+    let removed : c.remove-taken.new.self ≡ finite.remove c.args.cells.now c.args.place = search rules in
     removed ∙ one_taken c.args.cells.now c.args.place
