@@ -71,8 +71,29 @@ impl<'a> Model<'a> {
         // The look-up of this sheet's formulas may be there then; the others are as before.
         ensures looks_up { LooksUpAsBefore sheet self.old self.new }
     {
+        self.type_text(sheet, row, column, value.as_str())
+    }
+
+    /// The same with a text that is lent.
+    pub fn type_text(
+        &mut self,
+        sheet: u32,
+        row: i32,
+        column: i32,
+        value: &str,
+    ) -> Result<(), BookError>
+        ensures does { DoesIn writing_step (SetUserInput sheet row column (chars value.now)) no_fields
+            result self.old self.new }
+
+        // What the cell showed leaves in it what it held.
+        ensures retyped { OnOk result
+            (Retypes sheet row column (chars value.now) self.old self.new) }
+
+        // The look-up of this sheet's formulas may be there then; the others are as before.
+        ensures looks_up { LooksUpAsBefore sheet self.old self.new }
+    {
         let shown = self.style_to_write(sheet, row, column)?;
-        let typed = self.typed(value.as_str())?;
+        let typed = self.typed(value)?;
         self.write_typed(sheet, row, column, &typed, shown)
     }
 
@@ -106,7 +127,7 @@ impl<'a> Model<'a> {
         let Some(body) = typed_formula(typed) else {
             let value = typed_value(typed);
             let change = typed_change(typed);
-            return self.write_value(sheet, row, column, &value, &change);
+            return self.put_value(sheet, row, column, &value, &change, shown);
         };
         self.write_formula(sheet, row, column, body, shown)
     }

@@ -1,5 +1,5 @@
 //! Values that are written into cells.
-ghost use Rattle.std.specs.Prelude.{◌≡◌, ◌<◌, IfOk, Some, false};
+ghost use Rattle.std.specs.Prelude.{◌≡◌, ◌<◌, IfOk, None, Some, false};
 ghost use Rattle.ic_machine.specs.subjects.Writing.{UpdateCellWithBool, UpdateCellWithNumber, writing_step};
 ghost use Rattle.ic_parts.specs.Book.{IsValidBook};
 ghost use Rattle.ic_parts.specs.Does.{Does, DoesStep, Wanted};
@@ -71,9 +71,30 @@ impl<'a> Model<'a> {
             (value_content value.now)) no_fields result self.old self.new }
         ensures looks_up { self.new.has_all ≡ self.old.has_all }
     {
+        let shown = self.style_to_write(sheet, row, column)?;
+        self.put_value(sheet, row, column, value, change, shown)
+    }
+
+    /// Writes a value into a cell that may be written, given the number of the style that it shows (`style_to_write`), which
+    /// is changed.
+    pub(crate) fn put_value(
+        &mut self,
+        sheet: u32,
+        row: i32,
+        column: i32,
+        value: &Value<'_>,
+        change: &Restyle<'_>,
+        shown: usize,
+    ) -> Result<(), BookError>
+        requires shows { Shows self.old.book sheet row column shown }
+        requires allowed { value_refusal self.old.book sheet row column ≡ None }
+        ensures does { DoesStep Wanted
+            (put_step (whole_of self.old.book) sheet row column (style_change change.now)
+            (value_content value.now)) no_fields result self.old self.new }
+        ensures looks_up { self.new.has_all ≡ self.old.has_all }
+    {
         let count = self.lists.styles.len();
         let texts = self.lists.strings.len();
-        let shown = self.style_to_write(sheet, row, column)?;
         let cell = new_cell(self.alloc, &mut self.lists, shown, value, change)?;
         match self
             .contents

@@ -22,12 +22,20 @@ returns-in_default-clause-does c =
     let same =
     ap₂ (λ (change : Style → Style) (content : ℕ → Content). put_step whole c.args.sheet c.args.row c.args.column change content) c.typed_change-change.ensures c.typed_value-value.ensures
     ∙ other_put whole c.args.sheet c.args.row c.args.column c.args.typed.now none in
-    wanted_in (typed_step whole c.args.sheet c.args.row c.args.column c.args.typed.now) no_fields old c.write_value.new.self c.write_value.result
-    (subst (λ (made : Stepped machine.Book). DoesStep Wanted made no_fields c.write_value.result old c.write_value.new.self) same
-    (subst (λ (p : CellPlace). DoesStep Wanted (put_step whole c.args.sheet p.0 p.1 (style_change c.typed_change-change.result) (value_content c.typed_value-value.result)) no_fields c.write_value.result old c.write_value.new.self) (stored_pair c.args.row c.args.column c.ranges.row c.ranges.column) c.write_value.ensures.does))
+    wanted_in (typed_step whole c.args.sheet c.args.row c.args.column c.args.typed.now) no_fields old c.put_value.new.self c.put_value.result
+    (subst (λ (made : Stepped machine.Book). DoesStep Wanted made no_fields c.put_value.result old c.put_value.new.self) same
+    (subst (λ (p : CellPlace). DoesStep Wanted (put_step whole c.args.sheet p.0 p.1 (style_change c.typed_change-change.result) (value_content c.typed_value-value.result)) no_fields c.put_value.result old c.put_value.new.self) (stored_pair c.args.row c.args.column c.ranges.row c.ranges.column) c.put_value.ensures.does))
 
 pub returns-in_default-clause-looks_up : goal.returns-in_default-clause-looks_up
-returns-in_default-clause-looks_up c = inl c.write_value.ensures.looks_up
+returns-in_default-clause-looks_up c = inl c.put_value.ensures.looks_up
+
+pub put_value-requires-clause-shows : goal.put_value-requires-clause-shows
+put_value-requires-clause-shows c =
+    subst (λ (p : CellPlace). Shows c.args.self.now.book c.args.sheet p.0 p.1 c.args.shown) (sym (stored_pair c.args.row c.args.column c.ranges.row c.ranges.column)) c.requires.shows
+
+pub put_value-requires-clause-allowed : goal.put_value-requires-clause-allowed
+put_value-requires-clause-allowed c =
+    ap (λ (p : CellPlace). value_refusal c.args.self.now.book c.args.sheet p.0 p.1) (stored_pair c.args.row c.args.column c.ranges.row c.ranges.column) ∙ c.requires.allowed
 
 pub write_formula-requires-clause-shows : goal.write_formula-requires-clause-shows
 write_formula-requires-clause-shows c =
