@@ -11,6 +11,7 @@ pub mod SitesUpdate
 pub mod SitesWhole
 pub mod SparedBodies
 pub mod TypedSteps
+pub mod Uncopied
 pub mod UpdatedChecks
 pub mod UpdatedDoes
 pub mod UpdatedRules

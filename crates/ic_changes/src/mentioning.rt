@@ -1,9 +1,10 @@
 //! Where a sheet or a definition is mentioned: in which cells, and in the bodies of which definitions.
-ghost use Rattle.std.specs.Prelude.{◌≡◌, ◌++◌, flat_map, IfOk, OnOk};
+ghost use Rattle.std.specs.Prelude.{◌≡◌, ◌++◌, false, flat_map, IfOk, OnOk};
+ghost use Rattle.std.specs.List.{AllByRecursion};
 ghost use Rattle.ic_pool.specs.Mentioning.{AreThosePassing};
 ghost use Rattle.ic_changes.specs.Mentioning.{cells_passing, definition_passing, mentions, sites_passing};
 
-use ic_definitions::Definition;
+use ic_definitions::{Definition, Definitions};
 use ic_laws::{Formula, NameKey, OutOfMemory};
 use ic_parts::MentionSite;
 use ic_parts::contents::Contents;
@@ -33,7 +34,7 @@ pub fn sites_in(
 {
     let mut sites = Vec::new(alloc);
     push_sheets(&mut sites, contents.sheets.as_slice(), sought)?;
-    push_definitions(alloc, &mut sites, contents.definitions.as_slice(), sought)?;
+    push_mentioning(alloc, &mut sites, &contents.definitions, sought)?;
     Ok(sites)
 }
 
@@ -66,6 +67,33 @@ fn push_sheet(
         push_cells(sites, sheet.id, &places, sheet.grid.cells.as_map())?;
     }
     Ok(())
+}
+
+/// Puts the definitions at the end whose bodies mention it. Where none may the bodies aren't looked at.
+fn push_mentioning(
+    alloc: Global,
+    sites: &mut Vec<MentionSite>,
+    definitions: &Definitions,
+    sought: &Sought<'_>,
+) -> Result<(), OutOfMemory>
+    ensures { OnOk result (sites.new.items ≡ sites.old.items
+        ++ flat_map (definition_passing (mentions sought.now)) definitions.now) }
+{
+    if !may_mention(definitions, sought) {
+        return Ok(());
+    }
+    push_definitions(alloc, sites, definitions.as_slice(), sought)
+}
+
+/// Whether a body may mention it: where not, none does.
+fn may_mention(definitions: &Definitions, sought: &Sought<'_>) -> bool
+    ensures { result ≡ false → AllByRecursion
+        (λ d. mentions sought.now d.body ≡ false) definitions.now }
+{
+    match sought {
+        Sought::Sheet(id) => definitions.may_mention_sheet(*id),
+        Sought::Name(key) => definitions.may_mention_name(key),
+    }
 }
 
 /// Puts these definitions at the end, those whose bodies mention it.

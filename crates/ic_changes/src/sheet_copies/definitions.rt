@@ -1,6 +1,6 @@
 //! The definitions that are copied with a sheet.
 ghost use Rattle.std.specs.Prelude.{◌≡◌, ◌≤◌, ◌++◌, [], ◌∷◌, IfOk, OnOk, Some, chars, false, filter, length, map, true, if◌then◌else◌};
-ghost use Rattle.std.specs.List.{IsDistinct, list_any};
+ghost use Rattle.std.specs.List.{AllByRecursion, IsDistinct, list_any};
 ghost use Rattle.ic_laws.specs.CoreStep.{is_named};
 ghost use Rattle.ic_laws.specs.Name.{agrees};
 ghost use Rattle.ic_laws.specs.Scene.{same_key};
@@ -61,7 +61,7 @@ pub fn copied_definitions(
     Ok((copies, places))
 }
 
-/// Adds the copies of those of a kind.
+/// Adds the copies of those of a kind. Where it is known that there is none the definitions aren't gone over.
 fn push_copies(
     alloc: Global,
     copies: &mut Definitions,
@@ -80,11 +80,25 @@ fn push_copies(
         definitions.now.definitions.now)) }
     ensures finds { FindsNames places.new copies.new }
 {
+    if !may_copy(definitions, kind, source) {
+        return Ok(());
+    }
     for definition in definitions.definitions.as_slice() {
         let passes = is_copied(definitions, definition, kind, source);
         push_if(alloc, copies, places, definition, copy, passes)?;
     }
     Ok(())
+}
+
+/// Whether there may be one of those of a kind: where not, there is none.
+fn may_copy(definitions: &NamedDefinitions, kind: CopiedKind, source: u32) -> bool
+    ensures { result ≡ false → AllByRecursion (λ d. is_copied kind source
+        definitions.now.definitions.now d ≡ false) definitions.now.definitions.now }
+{
+    match kind {
+        CopiedKind::Local => source <= definitions.definitions.greatest_scope(),
+        CopiedKind::Shared => definitions.definitions.may_mention_sheet(source),
+    }
 }
 
 /// Whether a definition is one of those of a kind.

@@ -2,7 +2,13 @@ use Rattle.std.proofs.Common.{◌<◌, List, get_or, length, subst, sym, ap, ◌
 use Rattle.ic_laws.specs.CoreBook.{Definition}
 use Rattle.ic_changes.specs.Copied.{is_copied}
 use Rattle.ic_changes.proofs.CopiedDefinitions.{copy_is_free, copy_pushed}
+use Rattle.ic_changes.proofs.Uncopied.{none_copied}
 use Rattle.ic_changes.proofs.sheet_copies.definitions.push_copies.Goals as goal
+
+pub returns-then-not-may_copy-clause-put : goal.returns-then-not-may_copy-clause-put
+returns-then-not-may_copy-clause-put c =
+    let ds : List Definition = c.args.definitions.now.definitions.now in
+    none_copied c.args.copy (is_copied c.args.kind c.args.source ds) ds c.args.copies.now (c.may_copy.ensures c.if-not-may_copy.true)
 
 pub push_if-requires-clause-free : goal.push_if-requires-clause-free
 push_if-requires-clause-free c = λ passes.
