@@ -1,5 +1,5 @@
 -- What a reader of lines holds, what it takes, and what it gives.
-use Rattle.std.specs.Prelude.{◌≡◌, ℕ, ◌+◌, ◌-◌, ◌*◌, ◌<◌, ◌≤◌, List, [], ◌∷◌, ◌++◌, length, take, drop, Bool, true, false, ◌==◌, ◌⊎◌, Option, Some, None, IsSome, Contains, if◌then◌else◌}
+use Rattle.std.specs.Prelude.{◌≡◌, ℕ, ◌+◌, ◌-◌, ◌*◌, ◌<◌, ◌≤◌, List, [], ◌∷◌, ◌++◌, length, take, drop, Bool, true, false, ◌==◌, ◌&&◌, ◌||◌, nat_lt, ◌⊎◌, Option, Some, None, IsSome, Contains, if◌then◌else◌}
 use Rattle.std.specs.List.{list_any}
 use Rattle.ic_laws.specs.Character.{carriage_return, line_feed}
 use Rattle.ic_laws.specs.Lines.{texts_of}
@@ -60,6 +60,27 @@ abbrev pub without_return : List ℕ → List ℕ
 without_return [] = []
 without_return (b ∷ []) = if b == carriage_return then [] else b ∷ []
 without_return (b ∷ c ∷ bytes) = b ∷ without_return (c ∷ bytes)
+
+-- what stands before the first line feed and what stands after it: all and nothing where there is none
+abbrev pub before_line_feed : List ℕ → List ℕ
+before_line_feed [] = []
+before_line_feed (b ∷ bytes) = if b == line_feed then [] else b ∷ before_line_feed bytes
+
+abbrev pub after_line_feed : List ℕ → List ℕ
+after_line_feed [] = []
+after_line_feed (b ∷ bytes) = if b == line_feed then bytes else after_line_feed bytes
+
+-- a reader holds a line: a whole one, or, where it saw the end, a last one without a line feed
+abbrev pub holds_line : Reading → Bool
+holds_line reader = has_line_feed reader.held || reader.ended && nat_lt 0 (length reader.held)
+
+-- the same without the first line that it holds
+abbrev pub passed : Reading → Reading
+passed reader = record reader { held = after_line_feed reader.held }
+
+-- the bytes of the first line: those before the first line feed, without a carriage return at their end
+abbrev pub first_line : List ℕ → List ℕ
+first_line bytes = if has_line_feed bytes then without_return (before_line_feed bytes) else bytes
 
 -- a reader gave a line, or none, of what it held, whatever the source has left
 pub record GivesHeld (line : Option (List ℕ)) (old new : Reading) : Type 0 where

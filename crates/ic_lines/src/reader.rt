@@ -1,7 +1,7 @@
 ghost use Rattle.std.specs.Prelude.{◌≡◌, ◌≢◌, ◌⊎◌, ◌+◌, ◌<◌, ◌≤◌, [], true, false, None, Some, Err, IsSome, chars, take, drop, length, vec_len, Contains, IfOk, IfErr, OnOk, OnErr, MatchOption, MatchResult};
 ghost use Rattle.ic_laws.specs.Lines.{line_text};
 ghost use Rattle.ic_lines.specs.Bytes.{IfTold, HasFault, ShowsEnd};
-ghost use Rattle.ic_lines.specs.Reading.{GivesHeld, GivesLine, GoesOn, HasToAsk, IsFirstLineFeed, Reading, SeesEnd, TakesAfter, TakesLine, TakesRead, budget, has_line_feed, most_turns, unread, without_return};
+ghost use Rattle.ic_lines.specs.Reading.{GivesHeld, GivesLine, GoesOn, HasToAsk, IsFirstLineFeed, Reading, SeesEnd, TakesAfter, TakesLine, TakesRead, budget, first_line, has_line_feed, holds_line, most_turns, passed, unread, without_return};
 
 use crate::{Line, RunError, Source};
 use ic_laws::{OutOfMemory, Text};
@@ -115,14 +115,83 @@ impl LineReader {
         // Each line takes bytes of those held, or of those that the turns that are left can bring.
         ensures progress { IfOk result (λ line. IsSome line → budget self.new < budget self.old) }
     {
+        if !self.find_line(source)? {
+            return Ok(None);
+        }
+        let line = line_of(self.alloc, self.line())?;
+        self.pass();
+        Ok(Some(line))
+    }
+
+    /// Sees to it that the next line is held, and answers whether there is one: there is none exactly at the end, and from
+    /// then on. It reads as `next_line` does, with the same errors. Every byte that was taken is held.
+    pub fn find_line<S: Source>(&mut self, source: &mut S) -> Result<bool, RunError>
+        ensures found { IfOk result (λ found. found ≡ holds_line self.new) }
+        ensures none { IfOk result (λ found. found ≡ false → (self.new.held ≡ [])
+            × (self.new.ended ≡ true)) }
+        ensures kept { IfTold (S.left source.old) (S.left source.new)
+            (λ before now. unread self.new now ≡ unread self.old before) }
+
+        // What it sees of the end, and what it asks for.
+        ensures ends { self.old.ended ≡ false → IfTold (S.left source.old) (S.left source.new)
+            (λ before now. self.new.ended ≡ true → now ≡ []) }
+        ensures shown { SeesEnd self.old.ended self.new.ended
+            (S.ended source.old) (S.ended source.new) }
+        ensures unasked { Contains self.old.held 10 ⊎ (self.old.ended ≡ true) → source.new
+            ≡ source.old }
+        ensures taken { TakesLine self.old self.new (S.left source.old) (S.left source.new) }
+
+        // When each error comes.
+        ensures read_fault { result ≡ Err RunError.ReadFault
+            → HasFault (S.faults source.old) (S.faults source.new) × HasToAsk self.new }
+        ensures too_many { result ≡ Err RunError.TooManyTurns → (self.new.turns ≡ most_turns)
+            × HasToAsk self.new }
+        ensures no_write { result ≢ Err RunError.WriteFault }
+
+        ensures turns { IfTold (S.left source.old) (S.left source.new)
+            (λ before now. self.new.turns + length now ≤ self.old.turns + length before) }
+        ensures counted { S.faults source.old ≤ S.faults source.new }
+        ensures quiet { OnOk result (S.faults source.new ≡ S.faults source.old) }
+        ensures room { budget self.new ≤ budget self.old }
+    {
         'reads: loop {
-            if let Some(len) = self.line_feed() {
-                return Ok(Some(self.take_line(len)?));
+            if let Some(_) = self.line_feed() {
+                return Ok(true);
             }
             if self.ended {
-                return Ok(self.take_last()?);
+                return Ok(self.start < self.bytes.len());
             }
             self.fill(source)?;
+        }
+    }
+
+    /// The line that it holds first, where it is held.
+    pub fn line(&self) -> &str
+        requires { holds_line self.now ≡ true }
+        ensures given { GivesHeld (Some (chars result.now)) self.now (passed self.now) }
+        ensures no_line_feed { has_line_feed (chars result.now) ≡ false }
+    {
+        text_of(self.line_bytes())
+    }
+
+    /// Passes over the line that it holds first.
+    pub fn pass(&mut self)
+        ensures { self.new ≡ passed self.old }
+    {
+        self.start = match first_line_feed(&self.bytes[self.scanned..]) {
+            Some(place) => self.scanned + place + 1,
+            None => self.bytes.len(),
+        };
+        self.scanned = self.start;
+    }
+
+    // The bytes of the line that it holds first, without its line feed and a carriage return before that.
+    fn line_bytes(&self) -> &[u8]
+        ensures { result.now ≡ first_line self.now.held }
+    {
+        match first_line_feed(&self.bytes[self.scanned..]) {
+            Some(place) => cut_return(&self.bytes[self.start..self.scanned + place]),
+            None => &self.bytes[self.start..],
         }
     }
 
@@ -186,35 +255,6 @@ impl LineReader {
         }
     }
 
-    // Gives the line of this length, and drops the line feed after it.
-    fn take_line(&mut self, len: usize) -> Result<Line, OutOfMemory>
-        requires { IsFirstLineFeed self.old.held len }
-        ensures ok { IfOk result (λ line. GivesHeld (Some line) self.old self.new) }
-        ensures err { OnErr result (self.new ≡ self.old) }
-    {
-        let end = self.start + len;
-        let line = line_of(self.alloc, cut_return(&self.bytes[self.start..end]))?;
-        self.start = end + 1;
-        self.scanned = self.start;
-        Ok(line)
-    }
-
-    // Gives what is held as the last line, if anything is.
-    fn take_last(&mut self) -> Result<Option<Line>, OutOfMemory>
-        requires ended { self.old.ended ≡ true }
-        requires no_line_feed { has_line_feed self.old.held ≡ false }
-        ensures ok { IfOk result (λ line. GivesHeld line self.old self.new) }
-        ensures err { OnErr result (self.new ≡ self.old) }
-    {
-        if self.start == self.bytes.len() {
-            return Ok(None);
-        }
-        let line = line_of(self.alloc, &self.bytes[self.start..])?;
-        self.start = self.bytes.len();
-        self.scanned = self.start;
-        Ok(Some(line))
-    }
-
     // Reads once more.
     fn fill<S: Source>(&mut self, source: &mut S) -> Result<(), RunError>
         requires { self.old.ended ≡ false }
@@ -270,12 +310,12 @@ pub fn cut_return(bytes: &[u8]) -> &[u8]
     if *last == b'\r' { front } else { bytes }
 }
 
-// The line of these bytes.
-fn line_of(alloc: Global, bytes: &[u8]) -> Result<Line, OutOfMemory>
-    requires { has_line_feed bytes.now ≡ false }
-    ensures { IfOk result (λ line. line ≡ line_text bytes.now) }
+// The line of this text.
+fn line_of(alloc: Global, text: &str) -> Result<Line, OutOfMemory>
+    requires { has_line_feed (chars text.now) ≡ false }
+    ensures { IfOk result (λ line. line ≡ chars text.now) }
 {
-    let text = Text::from_str(alloc, text_of(bytes))?;
+    let text = Text::from_str(alloc, text)?;
     Ok(Line::without_line_feed(text))
 }
 

@@ -3,7 +3,7 @@ use Rattle.ic_lines.specs.Reading.{SeesEnd, budget, has_line_feed, Reading, Take
 use Rattle.ic_lines.proofs.LineLemmas.{no_line_feed-Contains}
 use Rattle.ic_lines.proofs.TakeLemmas.{SeesEnd-join, SeesEnd-start, TakesLine-start, TakesLine-step}
 use Rattle.ic_lines.proofs.ToldLemmas.{IfTold-join, IfTold-same}
-use Rattle.ic_lines.proofs.reader.LineReader.next_line.Goals as goal
+use Rattle.ic_lines.proofs.reader.LineReader.find_line.Goals as goal
 
 pub reads-init : goal.reads-init
 reads-init g c = record {
@@ -21,12 +21,9 @@ pub returns-in_err-fill-clause-taken : goal.returns-in_err-fill-clause-taken
 returns-in_err-fill-clause-taken g c =
     let old = c.reads.self in
     let same : c.line_feed.new.self ≡ old = c.line_feed.ensures.same in
-    let still : old.ended ≡ false = sym (ap (λ (r : Reading). r.ended) (c.self.view_is ∙ same)) ∙ c.if-self.false in (
-      c.fill.new.self,
-      TakesLine-step c.args.self.now old c.fill.new.self _ _ _ c.reads.invariant.taken c.in_default.ensures.found still
-          (subst (λ r. TakesRead r c.fill.new.self (g.S.Source.left c.reads.source) (g.S.Source.left c.fill.new.source)) same c.fill.ensures.taken),
-      search rules,
-    )
+    let still : old.ended ≡ false = sym (ap (λ (r : Reading). r.ended) (c.self.view_is ∙ same)) ∙ c.if-self.false in
+    TakesLine-step c.args.self.now old c.fill.new.self _ _ _ c.reads.invariant.taken c.in_default.ensures.found still
+    (subst (λ r. TakesRead r c.fill.new.self (g.S.Source.left c.reads.source) (g.S.Source.left c.fill.new.source)) same c.fill.ensures.taken)
 
 pub reads-preserved : goal.reads-preserved
 reads-preserved g c =

@@ -1,7 +1,7 @@
 use Rattle.std.proofs.Common.{◌≡◌, ◌⊎◌, ◌+◌, ◌-◌, ◌≤◌, [], true, false, length, Contains, if◌then◌else◌}
 use Rattle.ic_lines.specs.Bytes.{IfTold}
 use Rattle.ic_lines.specs.Reading.{SeesEnd, TakesLine, budget, most_turns, unread}
-use Rattle.ic_lines.proofs.reader.LineReader.next_line.Given as goal
+use Rattle.ic_lines.proofs.reader.LineReader.find_line.Given as goal
 
 -- what is still to be given stays, no fault was counted, and each read but the last brought no line feed; as long as
 -- nothing had to be asked nothing has happened
