@@ -5,7 +5,7 @@ use Rattle.std.proofs.lemmas.Bool.Decides.{eqb_tells}
 use Rattle.std.proofs.lemmas.List.{append-nil, drop-drop}
 use Rattle.ic_laws.specs.Lines.{line_text, texts_of}
 use Rattle.ic_lines.specs.Reading.{GivesHeld, IsFirstLineFeed, after_line_feed, before_line_feed, first_line, has_line_feed, holds_line, without_return}
-use Rattle.ic_lines.proofs.LineLemmas.{first_after, lines_of-last, lines_of-split, none_after}
+use Rattle.ic_lines.proofs.LineLemmas.{first_after, lines_of-last, lines_of-split, no_line_feed-without_return, none_after}
 
 -- the bytes after those that were looked through
 module _ (items : List ℕ) (start scanned : ℕ) (order : start ≤ scanned) (none : has_line_feed (take (scanned - start) (drop start items)) ≡ false) where
@@ -69,6 +69,13 @@ parts (b ∷ held) some =
       | inr e ↦ let more : has_line_feed held ≡ true = rw (e.0) at some in rw (e.0) (ap (λ t. b ∷ t) (parts held more))
     ]
 
+pub clean_first : (held : List ℕ) → has_line_feed (first_line held) ≡ false
+clean_first held =
+    elim (cases_Bool (has_line_feed held)) [
+      | inl some ↦ rw some (no_line_feed-without_return (before_line_feed held) (clean held))
+      | inr none ↦ ap has_line_feed (first_none held none) ∙ none
+    ]
+
 -- What is given. ----
 
 last_text : (held line : List ℕ) → 0 < length held → has_line_feed held ≡ false → line ≡ line_text held → texts_of held ≡ line ∷ []
@@ -94,20 +101,20 @@ pub gives_first : (held : List ℕ) (ended : Bool) (turns : ℕ) → holds_line 
 gives_first held ended turns holds =
     elim (cases_Bool (has_line_feed held)) [
       | inl some ↦
-        let before = before_line_feed held in
-        let after = after_line_feed held in
-        let whole = parts held some in
-        record {
-          gives = λ left.
-              let rest : List ℕ = if ended then [] else left in
-              ap texts_of (ap (λ v. v ++ rest) whole ∙ append_assoc before (10 ∷ after) rest) ∙ ap (map line_text) (lines_of-split before (after ++ rest) (clean held))
-              ∙ ap (λ l. line_text l ∷ texts_of (after ++ rest)) (sym (rw some refl));
-          ended = refl;
-          turns = refl;
-          fewer = λ s. omega (arith, ap length whole, length-append before (10 ∷ after));
-        }
+          let before = before_line_feed held in
+          let after = after_line_feed held in
+          let whole = parts held some in
+          record {
+            gives = λ left.
+                let rest : List ℕ = if ended then [] else left in
+                ap texts_of (ap (λ v. v ++ rest) whole ∙ append_assoc before (10 ∷ after) rest) ∙ ap (map line_text) (lines_of-split before (after ++ rest) (clean held))
+                ∙ ap (λ l. line_text l ∷ texts_of (after ++ rest)) (sym (rw some refl));
+            ended = refl;
+            turns = refl;
+            fewer = λ s. omega (arith, ap length whole, length-append before (10 ∷ after));
+          }
       | inr none ↦
-        let last = and_parts ended (nat_lt 0 (length held)) (rw none at holds) in
-        subst (λ (l : List ℕ). GivesHeld (Some (line_text l)) (record { held = held; ended = ended; turns = turns }) (record { held = after_line_feed held; ended = ended; turns = turns })) (sym (first_none held none))
-        (gives_last held (after_line_feed held) ended turns (line_text held) last.0 (after_none held none) (ltb-true 0 (length held) last.1) none refl)
+          let last = and_parts ended (nat_lt 0 (length held)) (rw none at holds) in
+          subst (λ (l : List ℕ). GivesHeld (Some (line_text l)) (record { held = held; ended = ended; turns = turns }) (record { held = after_line_feed held; ended = ended; turns = turns })) (sym (first_none held none))
+          (gives_last held (after_line_feed held) ended turns (line_text held) last.0 (after_none held none) (ltb-true 0 (length held) last.1) none refl)
     ]

@@ -1,4 +1,4 @@
-use Rattle.std.proofs.Common.{◌≡◌, ◌+◌, ◌≤◌, length, true, false, [], refl, sym, ap, subst, ◌∙◌, inl, inr, arith, rules}
+use Rattle.std.proofs.Common.{◌≡◌, ◌+◌, ◌≤◌, length, true, false, [], refl, sym, ap, subst, ◌∙◌, inl, inr, arith}
 use Rattle.ic_lines.specs.Reading.{SeesEnd, budget, has_line_feed, Reading, TakesRead, unread}
 use Rattle.ic_lines.proofs.LineLemmas.{no_line_feed-Contains}
 use Rattle.ic_lines.proofs.TakeLemmas.{SeesEnd-join, SeesEnd-start, TakesLine-start, TakesLine-step}
