@@ -96,7 +96,8 @@ lines-preserved g c =
     let one = c.in_ok-answer_to.ensures.does in
     let held : GivesHeld (Some line) asked after = subst (λ (r : Reading). GivesHeld (Some line) asked r) (sym c.pass.ensures) c.line.ensures.given in
     let gives = gives_told line before asked after (left c.lines.source) (left c.find_line.new.source) e.kept held in
-    let ends = λ unseen. subst (λ (b : Bool). IfTold (left c.lines.source) (left c.find_line.new.source) (λ x y. b ≡ true → y ≡ [])) (sym held.ended) (e.ends unseen) in
+    let ends : before.ended ≡ false → IfTold (left c.lines.source) (left c.find_line.new.source) (λ x y. after.ended ≡ true → y ≡ []) =
+    λ unseen. subst (λ (b : Bool). IfTold (left c.lines.source) (left c.find_line.new.source) (λ x y. b ≡ true → y ≡ [])) (sym held.ended) (e.ends unseen) in
     record {
       ready = c.in_ok-answer_to.ensures.ready;
       came = came_further a.does old mid new line one.0 i.came one.1;
@@ -119,6 +120,6 @@ returns-clause-all g c =
     let before = c.lines.reader in
     let asked = c.find_line.new.self in
     let h = c.in_ok-find_line.ensures in
-    let end = h.none c.lines-test.false in
+    let end = h.none c.if-branch.false in
     answers_all_told g.A.Answers.does (c.args.answerer.now, c.args.model.now) (c.lines.answerer, c.lines.model) c.lines.count before asked asked (g.K.Sink.written c.args.sink.now) (g.K.Sink.written c.lines.sink) _ _ _ c.lines.invariant.done h.taken
     (gives_none before asked (left c.lines.source) (left c.find_line.new.source) h.kept end.0 end.1)
