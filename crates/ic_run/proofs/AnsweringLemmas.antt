@@ -1,19 +1,19 @@
 -- How far a run over told bytes has come, line by line, and what its errors leave, by what one line does.
-use Rattle.std.proofs.Common.{◌≡◌, ℕ, ◌+◌, ◌≤◌, ◌⊎◌, List, [], ◌∷◌, ◌++◌, length, take, drop, true, false, Option, Some, None, ap, sym, subst, ◌∙◌, refl, inl, inr, arith, append_assoc, append-nil, length-append, length-drop, if◌then◌else◌}
+use Rattle.std.proofs.Common.{◌≡◌, ℕ, ◌+◌, ◌-◌, ◌*◌, ◌<◌, ◌≤◌, Bool, ◌⊎◌, List, [], ◌∷◌, ◌++◌, length, take, drop, true, false, Option, Some, None, ap, sym, subst, ◌∙◌, refl, inl, inr, arith, append_assoc, append-nil, length-append, length-drop, if◌then◌else◌}
 use Rattle.std.proofs.Math.Seq.{take-append-add}
 use Rattle.std.proofs.lemmas.Bool.{cases_Bool}
 use Rattle.std.proofs.lemmas.Bool.Decides.{eqb_tells}
 use Rattle.std.proofs.lemmas.List.{take-append-drop}
 use Rattle.ic_laws.specs.Lines.{texts_of}
 use Rattle.ic_lines.specs.Bytes.{AppendsFront, IfTold}
-use Rattle.ic_lines.specs.Reading.{GivesHeld, GivesLine, HasToAsk, Reading, TakesLine, has_line_feed, line_feeds, unread}
+use Rattle.ic_lines.specs.Reading.{GivesHeld, GivesLine, HasToAsk, Reading, TakesLine, budget, has_line_feed, line_feeds, unread}
 use Rattle.ic_lines.specs.declared.error.RunError.{RunError}
 use Rattle.ic_lines.specs.declared.error.RunError.TheVariants as errors
 use Rattle.ic_lines.proofs.FeedLemmas.{line_feeds-append, line_feeds-next}
 use Rattle.ic_lines.proofs.ToldLemmas.{IfTold-join, IfTold-same, IfTold-weaker}
 use Rattle.ic_run.specs.Answering.{AnswersAll, AnswersFirst, AnswersPartly, AnswersSome, Appends, AppendsPartly, AreAnswered, LeavesAnswered}
 use Rattle.ic_run.specs.Run.{AreRead}
-use Rattle.ic_run.proofs.RunLemmas.{next_rest, next_taken, next_within}
+use Rattle.ic_run.proofs.RunLemmas.{IsSome-is, next_rest, next_taken, next_within}
 
 -- what a call of the reader that gave a line tells of the bytes
 pub record Next (line : List ℕ) (old new : Reading) (before now : List ℕ) : Type 0 where
@@ -59,6 +59,21 @@ next_told line old asked new a b t g gives ends =
       feeds = h.0.1;
       open_before = λ still. was_open old asked a b t (sym g.ended ∙ still);
     }) three
+
+-- what a reader that took bytes gives of what was to come: a line of those that it holds, or none at the end
+pub gives_told : (line : List ℕ) (old asked new : Reading) (a b : Option (List ℕ)) → IfTold a b (λ x y. unread asked y ≡ unread old x) → GivesHeld (Some line) asked new
+    → IfTold a b (λ x y. GivesLine (Some line) (unread old x) (unread new y))
+gives_told line old asked new a b kept g =
+    IfTold-weaker a b (λ x y. unread asked y ≡ unread old x) (λ x y. GivesLine (Some line) (unread old x) (unread new y)) (λ x y e. ap texts_of (sym e) ∙ g.gives y) kept
+
+pub gives_none : (old asked : Reading) (a b : Option (List ℕ)) → IfTold a b (λ x y. unread asked y ≡ unread old x) → asked.held ≡ [] → asked.ended ≡ true
+    → IfTold a b (λ x y. GivesLine None (unread old x) (unread asked y))
+gives_none old asked a b kept nothing ended =
+    IfTold-weaker a b (λ x y. unread asked y ≡ unread old x) (λ x y. GivesLine None (unread old x) (unread asked y))
+    (λ x y e. let is : unread asked y ≡ [] = ap (λ (h : List ℕ). h ++ (if asked.ended then [] else y)) nothing ∙ ap (λ (b : Bool). if b then [] else y) ended in (sym e ∙ is, is)) kept
+
+pub fewer_left : (line : List ℕ) (asked new : Reading) → GivesHeld (Some line) asked new → budget new < budget asked
+fewer_left line asked new g = omega (arith, g.fewer (IsSome-is (Some line) line refl), ap (λ (t : ℕ). 4096 * (4294967296 - t)) g.turns)
 
 no_feeds : (bytes : List ℕ) → has_line_feed bytes ≡ false → line_feeds bytes ≡ 0
 no_feeds [] none = refl

@@ -1,5 +1,5 @@
 //! The loop: lines of a source are read, answered and replied to.
-ghost use Rattle.std.specs.Prelude.{◌≡◌, ◌⊎◌, ◌+◌, ◌<◌, ◌≤◌, ◌^◌, List, ℕ, true, Err, length, IfOk, IfErr, IsSomeAnd, OnErr, OnOk, string_bytes};
+ghost use Rattle.std.specs.Prelude.{◌≡◌, ◌⊎◌, ◌+◌, ◌<◌, ◌≤◌, ◌^◌, List, ℕ, true, Err, length, IfOk, IfErr, IsSomeAnd, OnErr, OnOk, chars, string_bytes};
 ghost use Rattle.ic_lines.specs.Bytes.{AppendsFront, HasFault, IfTold};
 ghost use Rattle.ic_parts.specs.Book.{ModelState};
 ghost use Rattle.ic_run.specs.Answering.{AnswersAll, AnswersSome, Appends, LeavesAnswered};
@@ -7,7 +7,7 @@ ghost use Rattle.ic_run.specs.Run.{HasCause};
 
 use ic_book::Model;
 use ic_laws::OutOfMemory;
-use ic_lines::{Line, LineReader, RunError, Sink, Source, write_all};
+use ic_lines::{LineReader, RunError, Sink, Source, write_all};
 use std::alloc::Global;
 use std::mem;
 
@@ -27,12 +27,12 @@ pub trait Answers {
         &mut self,
         alloc: Global,
         model: &mut Model<'_>,
-        line: &Line,
+        line: &str,
         last: String,
     ) -> Result<String, OutOfMemory>
         requires ready { is_ready self.old model.old }
         ensures does { IfOk result (λ reply.
-            does line.now (self.old, model.old) (self.new, model.new) (string_bytes reply)) }
+            does (chars line.now) (self.old, model.old) (self.new, model.new) (string_bytes reply)) }
         ensures ready { OnOk result (is_ready self.new model.new) }
         ensures stays { OnErr result (stays (self.old, model.old) (self.new, model.new)) };
 }
@@ -87,8 +87,9 @@ pub fn answer_each<A: Answers, S: Source, K: Sink>(
     let mut reader = LineReader::new(alloc);
     let mut room = String::new(alloc);
     let mut count = 0;
-    'lines: while let Some(line) = reader.next_line(source)? {
-        answer_to(alloc, answerer, model, &line, &mut room, sink)?;
+    'lines: while reader.find_line(source)? {
+        answer_to(alloc, answerer, model, reader.line(), &mut room, sink)?;
+        reader.pass();
         count += 1;
     }
     Ok(count)
@@ -99,13 +100,13 @@ fn answer_to<A: Answers, K: Sink>(
     alloc: Global,
     answerer: &mut A,
     model: &mut Model<'_>,
-    line: &Line,
+    line: &str,
     room: &mut String,
     sink: &mut K,
 ) -> Result<(), RunError>
     requires ready { A.is_ready answerer.old model.old }
     ensures ready { OnOk result (A.is_ready answerer.new model.new) }
-    ensures does { OnOk result ((told : List ℕ) × A.does line.now (answerer.old, model.old)
+    ensures does { OnOk result ((told : List ℕ) × A.does (chars line.now) (answerer.old, model.old)
         (answerer.new, model.new) told
         × IfTold (K.written sink.old) (K.written sink.new) (Appends told)) }
     ensures which { IfErr result (λ e. (e ≡ RunError.OutOfMemory) ⊎ (e ≡ RunError.WriteFault)) }
@@ -114,7 +115,7 @@ fn answer_to<A: Answers, K: Sink>(
         × (sink.new ≡ sink.old) }
     ensures write_fault { result ≡ Err RunError.WriteFault → HasFault (K.faults sink.old)
         (K.faults sink.new)
-        × (told : List ℕ) × A.does line.now (answerer.old, model.old)
+        × (told : List ℕ) × A.does (chars line.now) (answerer.old, model.old)
         (answerer.new, model.new) told
         × IfTold (K.written sink.old) (K.written sink.new) (AppendsFront told) }
     ensures counted { K.faults sink.old ≤ K.faults sink.new }

@@ -8,9 +8,9 @@ ghost use Rattle.ic_run.specs.Run.{AppendsReplies, HasCause, IsAfterAll, LeavesR
 
 use crate::answering::{Answers, answer_each};
 use ic_book::Model;
-use ic_commands::reply_in;
+use ic_commands::reply_to_text;
 use ic_laws::OutOfMemory;
-use ic_lines::{Line, RunError, Sink, Source};
+use ic_lines::{RunError, Sink, Source};
 use std::alloc::Global;
 
 /// Answers the lines of a source, one reply a line, and answers their number. It answers every whole line that it
@@ -94,10 +94,10 @@ impl Answers for Commands {
         &mut self,
         alloc: Global,
         model: &mut Model<'_>,
-        line: &Line,
+        line: &str,
         last: String,
     ) -> Result<String, OutOfMemory> {
-        reply_in(alloc, model, line, last)
+        reply_to_text(alloc, model, line, last)
     }
 }
 

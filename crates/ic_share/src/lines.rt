@@ -7,7 +7,7 @@ ghost use Rattle.ic_share.specs.Share.{AppendsShared, LeavesShared, SharesAll};
 use crate::users::Users;
 use ic_book::Model;
 use ic_laws::OutOfMemory;
-use ic_lines::{Line, RunError, Sink, Source};
+use ic_lines::{RunError, Sink, Source};
 use ic_run::{Answers, answer_each};
 use std::alloc::Global;
 
@@ -82,7 +82,7 @@ impl Answers for Users {
         &mut self,
         alloc: Global,
         model: &mut Model<'_>,
-        line: &Line,
+        line: &str,
         last: String,
     ) -> Result<String, OutOfMemory> {
         Users::answered(self, alloc, model, line, last)

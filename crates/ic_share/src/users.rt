@@ -18,7 +18,6 @@ use ic_book::{BookError, Model};
 use ic_commands::reply_to_text;
 use ic_laws::OutOfMemory;
 use ic_laws::scan::{first_char, same_text};
-use ic_lines::Line;
 use std::alloc::Global;
 use std::collections::BTreeMap;
 use std::marker;
@@ -78,18 +77,19 @@ impl Users {
         &mut self,
         alloc: Global,
         model: &mut Model<'_>,
-        line: &Line,
+        line: &str,
         last: String,
     ) -> Result<String, OutOfMemory>
         requires own { self.old.own ≡ model.old.book.language }
         requires known { IsKnown (shared_by self.old model.old.book) }
-        ensures does { IfOk result (λ reply. DoesShared line.now (shared_by self.old model.old.book)
-            (shared_by self.new model.new.book) (string_bytes reply)) }
+        ensures does { IfOk result (λ reply. DoesShared (chars line.now)
+            (shared_by self.old model.old.book) (shared_by self.new model.new.book)
+            (string_bytes reply)) }
         ensures own { self.new.own ≡ self.old.own }
         ensures languages { OnErr result (self.new.languages ≡ self.old.languages) }
         ensures err { OnErr result (whole_of model.new.book ≡ whole_of model.old.book) }
     {
-        let Some((word, command)) = parts_of(line.text().as_str()) else {
+        let Some((word, command)) = parts_of(line) else {
             return bad_reply(alloc, model, last);
         };
         let Some(user) = user_of(alloc, word)? else {
