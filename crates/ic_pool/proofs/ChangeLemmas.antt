@@ -1,9 +1,9 @@
--- Formulas that a change leaves, and what dangles after it.
-use Rattle.std.proofs.Common.{◌≡◌, ℕ, List, Bool, true, false, ◌&&◌, ◌||◌, cond, Option, Some, refl, ap, ◌∙◌}
+-- Formulas that a change leaves.
+use Rattle.std.proofs.Common.{◌≡◌, ℕ, Bool, true, false, ◌&&◌, Option, Some, refl, ap, ◌∙◌}
 use Rattle.std.specs.Prelude.{bytes_eq}
 use Rattle.ic_laws.proofs.keeping.Kept.{spared_is_same}
 use Rattle.ic_laws.proofs.keeping.Spared.{untouched_is_spared}
-use Rattle.ic_laws.specs.Changes.{Change, changed_local, changed_sheet, changed_word, changes_local, changes_sheet, changes_word, could_mean, could_mean_local, definition_added, sheet_named}
+use Rattle.ic_laws.specs.Changes.{Change, changes_local, changes_sheet, changes_word, could_mean, could_mean_local, definition_added, sheet_named}
 use Rattle.ic_laws.specs.Name.{fold}
 use Rattle.ic_laws.specs.Scene.{key_of, same_scope}
 use Rattle.ic_laws.specs.Tree.{Bound}
@@ -15,18 +15,14 @@ use Rattle.ic_laws.specs.declared.tree.NameMention.{NameMention}
 use Rattle.ic_laws.specs.declared.tree.NameMention.TheVariants as names
 use Rattle.ic_laws.specs.declared.tree.SheetMention.{SheetMention}
 use Rattle.ic_laws.specs.declared.tree.SheetMention.TheVariants as sheets
-use Rattle.ic_pool.specs.Mentions.{KeepsAllFound, SparesFound, formula_after, has_dangling, is_changed_by, is_dangling, is_dangling_local, is_dangling_word, some_in}
-use Rattle.ic_pool.proofs.MentionLemmas.{fewer_pass, neither, none_becomes}
+use Rattle.ic_pool.specs.Mentions.{SparesFound, formula_after, is_dangling, is_dangling_local, is_dangling_word, some_in}
+use Rattle.ic_pool.proofs.MentionLemmas.{fewer_pass}
 
 -- one with no mention that it changes
 pub untouched_stays : (change : Change) (scope : Option ℕ) (formula : Formula) → some_in (changes_sheet change) (changes_word change scope) (changes_local change) formula ≡ false → formula_after change scope formula ≡ formula
 untouched_stays change scope (formulas.Tree t) e =
     ap (λ (u : Bound). let f : Formula = formulas.Tree u in f) (spared_is_same change scope t (untouched_is_spared change scope t e))
 untouched_stays change scope (formulas.Raw text) e = refl
-
--- so a formula in which all was found
-pub spared_stays : (change : Change) (scope : Option ℕ) → SparesFound change scope → (formula : Formula) → has_dangling formula ≡ false → (formula_after change scope formula ≡ formula) × (is_changed_by change scope formula ≡ false)
-spared_stays change scope spares formula none = (untouched_stays change scope formula (spares formula none), spares formula none)
 
 -- a change of mentions that found nothing leaves each formula in which all was found
 pub spares_found : (change : Change) (scope : Option ℕ) → ((m : SheetMention) → is_dangling m ≡ false → changes_sheet change m ≡ false) → ((m : NameMention) → is_dangling_word m ≡ false → changes_word change scope m ≡ false)
@@ -63,22 +59,3 @@ adding_spares_found d id other = spares_found (definition_added d) (Some id) (λ
     local (sheets.Sheet found) (names.Name key) e = refl
     local (sheets.Sheet found) (names.Dangling w) e = cc
     local (sheets.Dangling typed) m e = refl
-
--- a definition that comes lets nothing dangle
-pub adding_keeps_found : (d : NameSpelling) (scope : Option ℕ) → KeepsAllFound (definition_added d) scope
-adding_keeps_found d scope (formulas.Raw text) e = refl
-adding_keeps_found d scope (formulas.Tree t) e =
-    none_becomes is_dangling is_dangling is_dangling_word is_dangling_word is_dangling_local is_dangling_local (changed_sheet change) (changed_word change scope) (changed_local change) (λ m e. e) word local t e
-  where
-    change : Change
-    change = definition_added d
-
-    chosen : (b : Bool) (m : NameMention) → is_dangling_word m ≡ false → is_dangling_word (cond b (names.Name (key_of d)) m) ≡ false
-    chosen true m e = refl
-    chosen false m e = e
-
-    word : (m : NameMention) → is_dangling_word m ≡ false → is_dangling_word (changed_word (definition_added d) scope m) ≡ false
-    word m e = chosen (could_mean (key_of d) scope m) m e
-
-    local : (s : SheetMention) (m : NameMention) → is_dangling s ≡ false → is_dangling_local s m ≡ false → (is_dangling s || is_dangling_word (changed_local (definition_added d) s m).1) ≡ false
-    local s m e f = neither e (chosen (could_mean_local (key_of d) s m) m f)

@@ -89,7 +89,7 @@ noted_pushed before after xs list x at knows noted r known keeps is has end put 
 
 -- ---- where something is mentioned
 
-some_place : (index : Noted) (at : ℕ) (x : Formula) (topics : List ℕ) → HasAt index at (topics_in x) → mentions_some topics x ≡ true → has_place_of index topics at ≡ true
+pub some_place : (index : Noted) (at : ℕ) (x : Formula) (topics : List ℕ) → HasAt index at (topics_in x) → mentions_some topics x ≡ true → has_place_of index topics at ≡ true
 some_place index at x [] has e = e
 some_place index at x (topic ∷ topics) has e = by_head (is_among topic (topics_in x)) refl e (λ f. some_place index at x topics has f)
   where

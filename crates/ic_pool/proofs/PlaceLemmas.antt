@@ -1,8 +1,8 @@
 -- Places in an index by mention.
-use Rattle.std.proofs.Common.{◌≡◌, ℕ, suc, ◌<◌, ◌+◌, List, [], ◌∷◌, Bool, true, false, cond, ◌||◌, refl, sym, ap, ap₂, ◌∙◌, get_or, length, take, arith, ◌⊎◌, inl, inr}
+use Rattle.std.proofs.Common.{◌≡◌, ℕ, zero, suc, ◌<◌, ◌+◌, List, [], ◌∷◌, Bool, true, false, cond, ◌||◌, refl, sym, ap, ap₂, ◌∙◌, get_or, length, take, arith, ◌⊎◌, inl, inr}
 use Rattle.std.specs.Prelude.{◌==◌}
 use Rattle.std.specs.BTreeSet.{BTreeSet, Updates, contains}
-use Rattle.std.specs.List.{list_any}
+use Rattle.std.specs.List.{insert, list_any}
 use Rattle.std.specs.Ordering.{is_eq, nat_cmp}
 use Rattle.std.proofs.lemmas.Bool.{eqb-true}
 use Rattle.std.proofs.lemmas.List.{take_more}
@@ -37,3 +37,17 @@ either_way false = refl
 -- a place that was in a set still is when one is put in
 pub still_in : (before after : BTreeSet ℕ) (k q : ℕ) → Updates nat_cmp before after k true → contains nat_cmp before q ≡ true → contains nat_cmp after q ≡ true
 still_in before after k q u e = u.0 q ∙ ap (cond (is_eq (nat_cmp k q)) true) e ∙ either_way (is_eq (nat_cmp k q))
+
+or_true : (b : Bool) → (b || true) ≡ true
+or_true true = refl
+or_true false = refl
+
+-- what passes a test still does when an item is put in
+pub inserted_passes : {X : Type 0} (test : X → Bool) (xs : List X) (index : ℕ) (x : X) → list_any test xs ≡ true → list_any test (insert xs index x) ≡ true
+inserted_passes test xs zero x e = ap (λ b. test x || b) e ∙ or_true (test x)
+inserted_passes test [] (suc index) x e = cc
+inserted_passes test (y ∷ xs) (suc index) x e = step (test y) e (inserted_passes test xs index x)
+  where
+    step : (b : Bool) → (b || list_any test xs) ≡ true → (list_any test xs ≡ true → list_any test (insert xs index x) ≡ true) → (b || list_any test (insert xs index x)) ≡ true
+    step true e rest = refl
+    step false e rest = rest e

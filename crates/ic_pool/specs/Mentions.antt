@@ -44,7 +44,3 @@ formula_after change scope formula = with_tree (changed_tree change scope) formu
 -- a change changes no mention of a formula in which all was found
 abbrev pub SparesFound : Change → Option ℕ → Type 0
 SparesFound change scope = (formula : Formula) → has_dangling formula ≡ false → is_changed_by change scope formula ≡ false
-
--- a change lets nothing dangle in a formula in which all was found
-abbrev pub KeepsAllFound : Change → Option ℕ → Type 0
-KeepsAllFound change scope = (formula : Formula) → has_dangling formula ≡ false → has_dangling (formula_after change scope formula) ≡ false

@@ -34,6 +34,7 @@ pub use copies::{copy_formula, copy_key};
 pub use hashed::HashedKey;
 pub use key::Key;
 pub use law::law_code_determines;
+pub use mention_index::MentionIndex;
 pub use mentions::has_dangling;
 pub use pool::{Pool, Replacement, Rewrites, mentions_name, mentions_sheet};
 pub use remaking::{Remaking, remade_formula};

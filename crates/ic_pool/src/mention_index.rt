@@ -1,5 +1,5 @@
 //! Where formulas mention what.
-ghost use Rattle.std.specs.Prelude.{◌≡◌, [], false, true, ℕ, IfOk, OnOk};
+ghost use Rattle.std.specs.Prelude.{◌≡◌, ◌≤◌, [], None, false, length, true, ℕ, IfOk, IfSome, OnOk};
 ghost use Rattle.std.specs.BTreeSet.{contains};
 ghost use Rattle.std.specs.Ordering.{nat_cmp};
 ghost use Rattle.ic_pool.specs.MentionPlaces.{HasAt, KeepsAll, KnowsAll, has_place, has_place_of, places_with};
@@ -15,7 +15,7 @@ use std::marker::Model;
 /// So many notes more are never too many.
 const FEW: usize = 1024;
 
-/// Some places, from 0 and below 2^32, in the order in which they were noted.
+/// Some numbers below 2^32, each once, in ascending order.
 #[derive(Drop)]
 struct Places {
     list: Vec<u32>,
@@ -46,34 +46,46 @@ impl Places {
         &self.list
     }
 
-    /// Whether the last one is this.
-    fn ends_with(&self, at: usize) -> bool
-        ensures { result ≡ true → is_among at self.now ≡ true }
+    /// The index, from 0, at which a place is to be put in. None where it is one of them. Most come behind the last one.
+    fn index_for(&self, place: u32) -> Option<usize>
+        ensures there { result ≡ None → is_among place self.now ≡ true }
+        ensures within { IfSome result (λ index. index ≤ length self.now) }
     {
         match self.list.last() {
-            Some(last) => *last as usize == at,
-            None => false,
+            Some(last) if *last >= place => index_within(&self.list, place),
+            _ => Some(self.list.len()),
         }
     }
 
-    /// Puts a place at the end, where it isn't the last one. There is no memory for places from 2^32 on.
+    /// Puts a place in, where it isn't one of them. There is no memory for places from 2^32 on.
     fn note(&mut self, at: usize) -> Result<(), OutOfMemory>
         ensures noted { OnOk result (is_among at self.new ≡ true) }
         ensures kept { (other : ℕ) → is_among other self.old ≡ true
             → is_among other self.new ≡ true }
     {
-        if !self.ends_with(at) {
-            let Ok(place) = u32::try_from(at) else {
-                return Err(OutOfMemory);
-            };
-            self.list.push(place)?;
+        let Ok(place) = u32::try_from(at) else {
+            return Err(OutOfMemory);
+        };
+        if let Some(index) = self.index_for(place) {
+            self.list.insert(index, place)?;
         }
         Ok(())
     }
 }
 
-/// For each topic the places of the formulas that mention it, from 0. It may have more places than those: none is taken
-/// out when a formula changes or goes.
+/// The same by a search among these.
+fn index_within(places: &[u32], place: u32) -> Option<usize>
+    ensures there { result ≡ None → is_among place places.now ≡ true }
+    ensures within { IfSome result (λ index. index ≤ length places.now) }
+{
+    match places.binary_search(&place) {
+        Ok(_) => None,
+        Err(index) => Some(index),
+    }
+}
+
+/// For each topic the places of the formulas that mention it, from 0, or what else they are told by, as the ids of their
+/// sheets. It may have more than those: none is taken out when a formula changes or goes.
 pub struct MentionIndex {
     alloc: Global,
     places: BTreeMap<u64, Places>,
@@ -215,7 +227,7 @@ impl MentionIndex {
     }
 
     /// The places of those that mention something with this topic, and maybe others.
-    fn places_with(&self, topic: u64) -> &[u32]
+    pub fn places_with(&self, topic: u64) -> &[u32]
         ensures { result.now ≡ places_with self.now topic }
     {
         match self.places.get(&topic) {

@@ -1,12 +1,11 @@
 -- An item that is put in among others: what stands where, what becomes of it there, and that it can be taken out again.
-use Rattle.std.proofs.Common.{◌≡◌, ℕ, zero, suc, ◌<◌, ◌≤◌, List, [], ◌∷◌, ◌++◌, Bool, true, false, ◌||◌, Some, map, length, refl, sym, ap, ap₂, ◌∙◌, arith}
+use Rattle.std.proofs.Common.{◌≡◌, ℕ, zero, suc, ◌<◌, ◌≤◌, List, [], ◌∷◌, ◌++◌, Bool, Some, map, length, refl, sym, ap, ap₂, ◌∙◌, arith}
 use Rattle.std.proofs.lemmas.List.Edits.{insert_end}
-use Rattle.std.specs.List.{AllByRecursion, insert, list_any, remove, slice_get}
+use Rattle.std.specs.List.{AllByRecursion, insert, remove, slice_get}
 use Rattle.ic_laws.proofs.core.Lists.{updated_seen}
 use Rattle.ic_laws.specs.CoreStep.{moved, put_back, updated_at}
 use Rattle.ic_grid.specs.declared.grid.Grid.{Grid}
 use Rattle.ic_pool.specs.Pool.{PoolState}
-use Rattle.ic_sheets.proofs.DanglingLemmas.{or_true}
 use Rattle.ic_sheets.specs.Rewriting.{look_ups, sheets_of}
 use Rattle.ic_sheets.specs.Sheet.{Sheet, sheet_of}
 use Rattle.ic_sheets.specs.declared.sheet.Sheet.{Sheet as HeldSheet}
@@ -42,16 +41,6 @@ module _ {X : Type 0} where
   all_inserted P xs zero x all one = (one, all)
   all_inserted P [] (suc index) x all one = (one, tt)
   all_inserted P (y ∷ xs) (suc index) x all one = (all.0, all_inserted P xs index x all.1 one)
-
-  -- what passes a test is still there
-  pub inserted_passes : (test : X → Bool) (xs : List X) (index : ℕ) (x : X) → list_any test xs ≡ true → list_any test (insert xs index x) ≡ true
-  inserted_passes test xs zero x e = ap (λ b. test x || b) e ∙ or_true (test x)
-  inserted_passes test [] (suc index) x e = cc
-  inserted_passes test (y ∷ xs) (suc index) x e = step (test y) e (inserted_passes test xs index x)
-    where
-      step : (b : Bool) → (b || list_any test xs) ≡ true → (list_any test xs ≡ true → list_any test (insert xs index x) ≡ true) → (b || list_any test (insert xs index x)) ≡ true
-      step true e rest = refl
-      step false e rest = rest e
 
   -- at the end
   pub inserted_last : (xs : List X) (index : ℕ) (x : X) → index ≡ length xs → insert xs index x ≡ xs ++ x ∷ []

@@ -11,7 +11,8 @@ use Rattle.ic_laws.specs.Changes.{Change}
 use Rattle.ic_laws.specs.CoreStep.{updated_at}
 use Rattle.ic_pool.specs.Rewrites.{FitsPool, RewritesState}
 use Rattle.ic_sheets.proofs.IndexLemmas.{clash, set_parts, split_at}
-use Rattle.ic_sheets.proofs.InsertLemmas.{all_inserted, inserted_passes, inserted_seen}
+use Rattle.ic_pool.proofs.PlaceLemmas.{inserted_passes}
+use Rattle.ic_sheets.proofs.InsertLemmas.{all_inserted, inserted_seen}
 use Rattle.ic_sheets.proofs.MakesLemmas.{Own, own_ids, own_new, own_none, own_other}
 use Rattle.ic_sheets.proofs.PlaceLemmas.{alone, some_apart}
 use Rattle.ic_sheets.proofs.RewritingLemmas.{called, sheet_called, sheets_called}

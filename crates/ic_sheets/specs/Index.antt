@@ -1,5 +1,5 @@
 -- What the sheets of a book keep beside them, and when it is true of them.
-use Rattle.std.specs.Prelude.{◌≡◌, ℕ, ◌+◌, ◌-◌, List, [], ◌∷◌, Bool, true, ◌&&◌, ◌||◌, not, Option, Some, None, bytes_eq, is_some, length, map, nat_eq, nat_lt, option_map, encode_utf8_all, String, if◌then◌else◌}
+use Rattle.std.specs.Prelude.{◌≡◌, ℕ, ◌+◌, ◌-◌, List, [], ◌∷◌, Bool, true, false, ◌&&◌, ◌||◌, not, Option, Some, None, bytes_eq, is_some, length, map, nat_eq, nat_lt, option_map, encode_utf8_all, String, if◌then◌else◌}
 use Rattle.std.specs.BTreeMap.{BTreeMap, get, get_by_text}
 use Rattle.std.specs.List.{IsDistinct, list_any}
 use Rattle.std.specs.Ordering.{nat_cmp}
@@ -74,6 +74,12 @@ dangles_at id sheets = list_any (λ s. nat_eq id s.id && dangles s) sheets
 abbrev pub is_listed : ℕ → List ℕ → Bool
 is_listed id ids = list_any (nat_eq id) ids
 
+-- these ids stand among those, in the same order
+abbrev pub is_part : List ℕ → List ℕ → Bool
+is_part [] all = true
+is_part (id ∷ ids) [] = false
+is_part (id ∷ ids) (other ∷ others) = if nat_eq id other then is_part ids others else is_part (id ∷ ids) others
+
 -- These are the ids of the sheets in which something dangles, each once.
 pub record AreDangling (ids : List ℕ) (sheets : List Sheet) : Type 0 where
   pub finds : (id : ℕ) → is_listed id ids ≡ dangles_at id sheets
@@ -87,11 +93,6 @@ is_id id sheets = list_any (nat_eq id) (map (λ s. s.id) sheets)
 pub record AreLookedAt (whole : Option ℕ) (ids : List ℕ) (sheets : List Sheet) : Type 0 where
   pub finds : (id : ℕ) → is_listed id ids ≡ (dangles_at id sheets || same_scope whole (Some id) && is_id id sheets)
   pub differ : IsDistinct nat_eq ids
-
--- the ids of the sheets in which something dangles, in the order of the sheets
-abbrev pub dangling_ids : List Sheet → List ℕ
-dangling_ids [] = []
-dangling_ids (s ∷ sheets) = if dangles s then s.id ∷ dangling_ids sheets else dangling_ids sheets
 
 -- No two names agree and no two ids are equal, and the greatest id is that of the sheets.
 pub record AreKept (last : ℕ) (sheets : List Sheet) : Type 0 where

@@ -1,4 +1,5 @@
 pub mod Index
+pub mod Mentioners
 pub mod Numbers
 pub mod Records
 pub mod Remade

@@ -1,8 +1,11 @@
 -- What becomes of the formulas of all sheets where a rule makes them anew.
-use Rattle.std.specs.Prelude.{◌≡◌, ◌&&◌, List, Bool, Some, map, not}
-use Rattle.std.specs.List.{AllZip, list_any}
+use Rattle.std.specs.Prelude.{◌≡◌, ◌&&◌, ℕ, List, [], Bool, Some, map, not, true}
+use Rattle.std.specs.List.{AllByRecursion, list_any}
+use Rattle.std.specs.Option.{unwrap_or}
 use Rattle.ic_pool.specs.Remade.{Remade, touched_from}
 use Rattle.ic_pool.specs.Rewrites.{FitsPool, RewritesState, rewritten_by}
+use Rattle.ic_sheets.specs.Index.{is_part}
+use Rattle.ic_sheets.specs.Rewriting.{own_rewrites}
 use Rattle.ic_sheets.specs.Sheet.{Sheet}
 use Rattle.ic_sheets.specs.declared.sheet.Sheet.{Sheet as HeldSheet}
 
@@ -20,6 +23,15 @@ pub record IsRemade (rule : Remade) (rewrites : RewritesState) (sheet : HeldShee
   pub listed : rewrites.changes ≡ touched_from rule (Some sheet.id) 0 sheet.pool.formulas
   pub fits : FitsPool rewrites sheet.pool.formulas
 
--- and these for all sheets
-abbrev pub AreRemade : Remade → List RewritesState → List HeldSheet → Type 0
-AreRemade rule prepared sheets = AllZip (IsRemade rule) prepared sheets
+-- no formula becomes another
+abbrev pub nothing : RewritesState
+nothing = record { changes = []; places = [] }
+
+-- what was prepared for the sheet with this id: nothing, where it isn't named
+abbrev pub rewrites_of : List (ℕ × RewritesState) → ℕ → RewritesState
+rewrites_of prepared id = unwrap_or (own_rewrites id prepared) nothing
+
+-- These were prepared for all sheets, by their ids and in the order of the sheets.
+pub record AreRemade (rule : Remade) (prepared : List (ℕ × RewritesState)) (sheets : List HeldSheet) : Type 0 where
+  pub each : AllByRecursion (λ s. IsRemade rule (rewrites_of prepared s.id) s) sheets
+  pub ordered : is_part (map (λ p. p.0) prepared) (map (λ s. s.id) sheets) ≡ true

@@ -1,11 +1,11 @@
 -- What becomes of the formulas of all sheets over a change of the sheets or the definitions.
 use Rattle.std.specs.Prelude.{◌≡◌, ℕ, List, [], ◌∷◌, ◌&&◌, Bool, true, false, map, not, Option, Some, None, find, nat_eq, if◌then◌else◌}
-use Rattle.std.specs.List.{AllByRecursion, AllZip, IsDistinct, list_any}
+use Rattle.std.specs.List.{AllByRecursion, IsDistinct, list_any}
 use Rattle.ic_laws.specs.Changes.{Change}
 use Rattle.ic_laws.specs.Scene.{same_scope}
 use Rattle.ic_pool.specs.Mentions.{SparesFound, formula_after, is_changed_by}
 use Rattle.ic_pool.specs.Rewrites.{FitsPool, ListsChanged, RewritesState, changes_nothing, rewritten_by}
-use Rattle.ic_sheets.specs.Index.{dangles, is_id}
+use Rattle.ic_sheets.specs.Index.{is_id}
 use Rattle.ic_sheets.specs.Sheet.{Sheet, sheet_of}
 use Rattle.ic_sheets.specs.declared.sheet.Sheet.{Sheet as HeldSheet}
 
@@ -29,27 +29,11 @@ looks_up_after change sheet = sheet.pool.is_whole && not (list_any (is_changed_b
 abbrev pub with_rewrites : RewritesState → HeldSheet → HeldSheet
 with_rewrites rewrites sheet = record sheet { pool = record { formulas = rewritten_by rewrites sheet.pool.formulas; is_whole = sheet.pool.is_whole && changes_nothing rewrites } }
 
--- each of them by what was prepared for it; those past the end stay
-abbrev pub with_all_rewrites : List RewritesState → List HeldSheet → List HeldSheet
-with_all_rewrites [] sheets = sheets
-with_all_rewrites (rewrites ∷ more) [] = []
-with_all_rewrites (rewrites ∷ more) (sheet ∷ sheets) = with_rewrites rewrites sheet ∷ with_all_rewrites more sheets
-
--- what was prepared fits, each the pool of its sheet
-abbrev pub FitSheets : List RewritesState → List HeldSheet → Type 0
-FitSheets [] sheets = Unit {0}
-FitSheets (rewrites ∷ more) [] = ⊥
-FitSheets (rewrites ∷ more) (sheet ∷ sheets) = FitsPool rewrites sheet.pool.formulas × FitSheets more sheets
-
 -- this was prepared for a sheet, over whose formulas a change is to go
 pub record IsPrepared (change : Change) (rewrites : RewritesState) (sheet : HeldSheet) : Type 0 where
   pub made : rewritten_by rewrites sheet.pool.formulas ≡ map (formula_after change (Some sheet.id)) sheet.pool.formulas
   pub listed : ListsChanged change (Some sheet.id) sheet.pool.formulas rewrites
   pub fits : FitsPool rewrites sheet.pool.formulas
-
--- and these for all sheets
-abbrev pub ArePrepared : Change → List RewritesState → List HeldSheet → Type 0
-ArePrepared change prepared sheets = AllZip (IsPrepared change) prepared sheets
 
 -- what was prepared for the sheet with this id, if anything was
 abbrev pub own_rewrites : ℕ → List (ℕ × RewritesState) → Option RewritesState
@@ -65,16 +49,16 @@ rewritten_if (Some rewrites) sheet = with_rewrites rewrites sheet
 abbrev pub with_own_rewrites : List (ℕ × RewritesState) → List HeldSheet → List HeldSheet
 with_own_rewrites prepared sheets = map (λ s. rewritten_if (own_rewrites s.id prepared) s) sheets
 
--- these were prepared for the sheets with these ids, one for each, over whose formulas a change is to go
-pub record PreparesEach (change : Change) (prepared : List (ℕ × RewritesState)) (ids : List ℕ) (sheets : List HeldSheet) : Type 0 where
+-- these were prepared for the sheets with these ids, one for each, and each as this says of it and its sheet
+pub record PreparesEach (Is : RewritesState → HeldSheet → Type 0) (prepared : List (ℕ × RewritesState)) (ids : List ℕ) (sheets : List HeldSheet) : Type 0 where
   pub each : map (λ p. p.0) prepared ≡ ids
   pub made : (id : ℕ) (rewrites : RewritesState) (sheet : HeldSheet) → own_rewrites id prepared ≡ Some rewrites → find (λ s. nat_eq s.id id) sheets ≡ Some sheet
-      → IsPrepared change rewrites sheet
+      → Is rewrites sheet
 
--- What was prepared for a sheet, if anything was, fits its pool, and lets nothing dangle there where nothing did before.
+-- what was prepared for a sheet, if anything was, fits its pool
 abbrev pub FitsSheet : Option RewritesState → HeldSheet → Type 0
 FitsSheet None sheet = Unit {0}
-FitsSheet (Some rewrites) sheet = FitsPool rewrites sheet.pool.formulas × (dangles (with_rewrites rewrites sheet) ≡ true → dangles sheet ≡ true)
+FitsSheet (Some rewrites) sheet = FitsPool rewrites sheet.pool.formulas
 
 -- Outside of the sheet with this id a change leaves each formula in which all was found.
 abbrev pub SparesElsewhere : Option ℕ → Change → Type 0

@@ -1,6 +1,7 @@
 //! The sheets of a book with their cells and the formulas that they keep, found by their names without a search.
 #![tactic(auto)]
 
+mod mentioners;
 mod records;
 mod sheet;
 mod sheets;

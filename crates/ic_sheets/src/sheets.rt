@@ -12,11 +12,13 @@ mod dangling;
 mod edits;
 mod formulas;
 mod grids;
+mod mentioning;
 mod numbers;
 mod rewriting;
 mod tabs;
 
 use crate::Sheet;
+use crate::mentioners::Mentioners;
 use caseless::default_case_fold_str;
 use ic_laws::{OutOfMemory, agree};
 pub use numbers::is_marked;
@@ -35,6 +37,8 @@ pub struct Sheets {
     greatest: u32,
     /// The ids of the sheets in which something dangles, each once, with room for those of all sheets.
     dangling: Vec<u32>,
+    /// Which of them mention what.
+    mentioners: Mentioners,
 }
 
 impl Drop for Sheets {
@@ -45,11 +49,13 @@ impl Drop for Sheets {
             indexes,
             greatest: _,
             dangling,
+            mentioners,
         } = self;
         drop(alloc);
         drop(list);
         drop(indexes);
         drop(dangling);
+        drop(mentioners);
     }
 }
 
@@ -57,6 +63,7 @@ impl Model for Sheets {
     ghost use Rattle.std.specs.Prelude.{◌≤◌, List, length, vec_capacity};
     ghost use Rattle.std.specs.Coded.{codes};
     ghost use Rattle.ic_sheets.specs.Index.{AreAtIndexes, AreDangling, AreKept};
+    ghost use Rattle.ic_sheets.specs.Mentioners.{KnowsSheets};
     ghost use Rattle.ic_sheets.specs.contracts.sheet.Sheet as sheet;
     ghost use Rattle.ic_sheets.specs.declared.sheet.Sheet.{Sheet};
 
@@ -68,7 +75,8 @@ impl Model for Sheets {
 
     ghost invariant = { λ s. AreKept s.greatest s.list.items × AreAtIndexes s.indexes s.list.items
         × AreDangling s.dangling.items s.list.items
-        × (length s.list.items ≤ vec_capacity s.dangling) };
+        × (length s.list.items ≤ vec_capacity s.dangling)
+        × KnowsSheets s.mentioners s.list.items };
 }
 
 /// The key of a name.
@@ -115,6 +123,7 @@ impl Sheets {
             indexes: BTreeMap::new(alloc),
             greatest: 0,
             dangling: Vec::new(alloc),
+            mentioners: Mentioners::new(alloc),
         }
     }
 

@@ -1,23 +1,22 @@
 //! Sheets come, get other names and go, and definitions come and go: what becomes of the formulas of all sheets.
-ghost use Rattle.std.specs.Prelude.{◌≡◌, ◌<◌, ◌≤◌, ◌++◌, ℕ, [], ◌∷◌, None, Some, IfOk, OnOk, OnErr, chars, false, true, insert, length, map, nat_eq, remove};
+ghost use Rattle.std.specs.Prelude.{◌≡◌, ◌<◌, ◌≤◌, ◌++◌, ℕ, [], ◌∷◌, None, Some, IfOk, IfSome, OnOk, OnErr, chars, false, true, insert, length, map, nat_eq, remove};
 ghost use Rattle.std.specs.List.{AllByRecursion, list_any, slice_get};
 ghost use Rattle.ic_laws.specs.Changes.{definition_added, sheet_gone, sheet_named};
 ghost use Rattle.ic_laws.specs.CoreStep.{updated_at};
 ghost use Rattle.ic_laws.specs.Greatest.{greatest};
 ghost use Rattle.ic_laws.specs.Name.{agrees};
-ghost use Rattle.ic_pool.specs.Mentions.{KeepsAllFound, SparesFound};
+ghost use Rattle.ic_pool.specs.Mentions.{SparesFound};
 ghost use Rattle.ic_pool.specs.Remade.{LeavesUntouched};
+ghost use Rattle.ic_pool.specs.Rewrites.{FitsPool};
 ghost use Rattle.ic_sheets.specs.Index.{FindsSheets};
 ghost use Rattle.ic_sheets.specs.Remade.{AreRemade};
-ghost use Rattle.ic_sheets.specs.Rewriting.{ArePrepared, FitOwn, FitSheets, Makes, SparesElsewhere, changed_pool, look_ups, looks_up_after, own_rewrites, sheets_of, with_all_rewrites, with_own_rewrites};
+ghost use Rattle.ic_sheets.specs.Rewriting.{FitOwn, Makes, SparesElsewhere, changed_pool, look_ups, looks_up_after, own_rewrites, sheets_of, with_own_rewrites, with_rewrites};
 ghost use Rattle.ic_sheets.specs.Sheet.{empty_grid, plain_tab};
 ghost use Rattle.ic_sheets.specs.declared.sheet.Sheet.{Sheet as HeldSheet};
 
 use super::Sheets;
-use super::dangling::{keep_dangling, looked_at, note_dangling};
-use super::rewriting::{
-    apply_all, apply_own, change_nothing, prepare, prepare_own, prepare_remade,
-};
+use super::dangling::{dangles, looked_at, settle};
+use super::rewriting::{prepare_own, prepare_remade};
 use ic_laws::{Finder, OutOfMemory};
 use ic_pool::{BookChange, DefinitionAdded, Remaking, Rewrites, SheetGone, SheetNamed};
 use std::collections::BTreeMap;
@@ -88,11 +87,11 @@ impl Sheets {
         ensures finds { FindsSheets ids.new self.new }
     {
         let prepared = self.insert_unapplied(ids, index, id, name, definitions)?;
-        self.apply_own(prepared);
+        self.apply(prepared);
         Ok(())
     }
 
-    /// The same, and answers what that does to the formulas of all sheets, by their ids. They stay until `apply_own` does
+    /// The same, and answers what that does to the formulas of all sheets, by their ids. They stay until `apply` does
     /// it. `OutOfMemory` changes nothing.
     pub fn insert_unapplied<F: Finder>(
         &mut self,
@@ -176,7 +175,7 @@ impl Sheets {
         };
         let prepared = self.prepare_dangling(&named)?;
         self.rename_leaving_formulas(ids, index, name)?;
-        self.apply_own(prepared);
+        self.apply(prepared);
         Ok(())
     }
 
@@ -206,30 +205,35 @@ impl Sheets {
             name,
             definitions,
         };
-        let mut prepared = self.prepare(&gone)?;
-        self.take_out(ids, index);
-        prepared.remove(index);
+        let prepared = self.prepare(&gone)?;
         self.apply(prepared);
+        self.take_out(ids, index);
         Ok(())
     }
 
-    /// What a change does to the formulas of each sheet, all prepared before any of them changes.
-    pub fn prepare<C: BookChange>(&self, change: &C) -> Result<Vec<Rewrites>, OutOfMemory>
-        ensures { IfOk result (λ prepared. ArePrepared (C.change change.now) prepared.items
-            self.now) }
+    /// What a change does to the formulas of all sheets, all prepared before any of them changes: it looks at the sheets that
+    /// may mention what it is about, and tells for each its id.
+    pub fn prepare<C: BookChange>(&self, change: &C) -> Result<Vec<(u32, Rewrites)>, OutOfMemory>
+        ensures { IfOk result (λ prepared. Makes (C.change change.now) prepared.items self.now) }
     {
-        prepare(self.alloc, &self.list, change)
+        let ids = self.ids_about(&[change.topic()])?;
+        prepare_own(self.alloc, &self.list, &self.indexes, &ids, change)
     }
 
-    /// What a rule that makes formulas anew does to those of each sheet, if it leaves each that it doesn't touch. All are
-    /// prepared before any of them changes.
-    pub fn prepare_remade<R: Remaking>(&self, remaking: &R) -> Result<Vec<Rewrites>, OutOfMemory>
+    /// What a rule that makes formulas anew does to those of all sheets, if it leaves each that it doesn't touch: likewise,
+    /// in the order of the sheets.
+    pub fn prepare_remade<R: Remaking>(
+        &self,
+        remaking: &R,
+    ) -> Result<Vec<(u32, Rewrites)>, OutOfMemory>
         requires { AllByRecursion (λ s. AllByRecursion (LeavesUntouched (R.made remaking.now)
             (Some s.id)) s.pool.formulas) self.now }
         ensures { IfOk result (λ prepared.
             AreRemade (R.made remaking.now) prepared.items self.now) }
     {
-        prepare_remade(self.alloc, &self.list, remaking)
+        let (one, other) = remaking.topics();
+        let ids = self.ids_about(&[one, other])?;
+        prepare_remade(self.alloc, &self.list, &self.indexes, &ids, remaking)
     }
 
     /// What a definition that comes does to the formulas of all sheets, for each sheet at which it looks with its id: it
@@ -265,14 +269,13 @@ impl Sheets {
         )
     }
 
-    /// The same for a change that can change others in the sheet with this id, where it lets nothing dangle that was found.
+    /// The same for a change that can change others in the sheet with this id.
     fn prepare_beside<C: BookChange>(
         &self,
         id: u32,
         change: &C,
     ) -> Result<Vec<(u32, Rewrites)>, OutOfMemory>
-        requires spares { SparesElsewhere (Some id) (C.change change.now) }
-        requires keeps { KeepsAllFound (C.change change.now) (Some id) }
+        requires { SparesElsewhere (Some id) (C.change change.now) }
         ensures { IfOk result (λ prepared. Makes (C.change change.now) prepared.items self.now) }
     {
         let sheets = self.list.as_slice();
@@ -280,24 +283,37 @@ impl Sheets {
         prepare_own(self.alloc, sheets, &self.indexes, &ids, change)
     }
 
-    /// Does to the formulas of each sheet what was prepared for it. Where that is nothing, no sheet is looked at.
-    pub fn apply(&mut self, prepared: Vec<Rewrites>)
-        requires { FitSheets prepared.items self.old }
-        ensures { self.new ≡ with_all_rewrites prepared.items self.old }
-    {
-        if change_nothing(&prepared) {
-            return;
-        }
-        apply_all(&mut self.list, prepared);
-        note_dangling(&mut self.dangling, &self.list);
-    }
-
-    /// Does to the formulas of each sheet what was prepared for its id; the others stay.
-    pub fn apply_own(&mut self, prepared: Vec<(u32, Rewrites)>)
+    /// Does to the formulas of each sheet what was prepared for its id, from the last one on; the others stay.
+    pub fn apply(&mut self, mut prepared: Vec<(u32, Rewrites)>)
         requires { FitOwn prepared.items self.old }
         ensures { self.new ≡ with_own_rewrites prepared.items self.old }
     {
-        apply_own(&mut self.list, &self.indexes, prepared);
-        keep_dangling(&mut self.dangling, &self.list, &self.indexes);
+        while let Some((id, rewrites)) = prepared.pop() {
+            if let Some(index) = self.index_of_id(id) {
+                self.apply_at(index, rewrites);
+            }
+        }
+        self.renew();
+    }
+
+    /// Does to the formulas of the sheet at an index, from 0, what was prepared for it.
+    fn apply_at(&mut self, index: usize, rewrites: Rewrites)
+        requires within { index < length self.old }
+        requires fits { IfSome (slice_get self.old index)
+            (λ s. FitsPool rewrites s.pool.formulas) }
+        ensures { self.new ≡ updated_at (with_rewrites rewrites) index self.old }
+    {
+        let sheet = &mut self.list[index];
+        let was = dangles(sheet);
+        self.mentioners.note_changes(sheet.id, rewrites.changes());
+        sheet.pool.apply(rewrites);
+        settle(&mut self.dangling, sheet.id, was, dangles(sheet));
+    }
+
+    /// Notes anew what all sheets mention, where too much is noted or not all.
+    fn renew(&mut self)
+        ensures { self.new ≡ self.old }
+    {
+        self.mentioners.renew(&self.list);
     }
 }

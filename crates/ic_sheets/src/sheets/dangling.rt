@@ -1,7 +1,7 @@
 //! Which sheets have formulas that mention something that wasn't found, told by their ids.
-ghost use Rattle.std.specs.Prelude.{◌≡◌, ◌<◌, ◌≤◌, ◌&&◌, ℕ, IfOk, Some, false, filter, find, length, map, nat_eq, not, option_map, vec_capacity, vec_len, if◌then◌else◌};
+ghost use Rattle.std.specs.Prelude.{◌≡◌, ◌<◌, ◌&&◌, ℕ, IfOk, Some, false, filter, find, map, nat_eq, not, option_map, vec_capacity, vec_len, if◌then◌else◌};
 ghost use Rattle.std.specs.List.{IsDistinct};
-ghost use Rattle.ic_sheets.specs.Index.{AreAtIndexes, AreDangling, AreLookedAt, dangles, dangles_at, dangling_ids, is_id, is_listed};
+ghost use Rattle.ic_sheets.specs.Index.{AreAtIndexes, AreDangling, AreLookedAt, dangles, dangles_at, is_id, is_listed};
 
 use super::{index_in, sheet_at};
 use crate::Sheet;
@@ -40,41 +40,6 @@ fn take_out(ids: &mut Vec<u32>, id: u32)
     ensures capacity { vec_capacity ids.new ≡ vec_capacity ids.old }
 {
     ids.retain(|q| *q != id);
-}
-
-/// Makes these the ids of the sheets in which something dangles. It takes no memory.
-pub fn note_dangling(ids: &mut Vec<u32>, sheets: &[Sheet])
-    requires { length sheets.now ≤ vec_capacity ids.old }
-    ensures ids { ids.new.items ≡ dangling_ids sheets.now }
-    ensures capacity { vec_capacity ids.new ≡ vec_capacity ids.old }
-{
-    ids.clear();
-    for sheet in sheets {
-        if dangles(sheet) {
-            ids.push_reserved(sheet.id);
-        }
-    }
-}
-
-/// Leaves those of the ids alone whose sheet has something that dangles.
-pub fn keep_dangling(ids: &mut Vec<u32>, sheets: &[Sheet], indexes: &BTreeMap<u32, usize>)
-    requires placed { AreAtIndexes indexes.now sheets.now }
-    requires differ { IsDistinct nat_eq (map (λ s. s.id) sheets.now) }
-    ensures ids { ids.new.items ≡ filter (λ id. dangles_at id sheets.now) ids.old.items }
-    ensures capacity { vec_capacity ids.new ≡ vec_capacity ids.old }
-{
-    ids.retain(|id| dangles_with(sheets, indexes, *id));
-}
-
-/// Whether something dangles in the sheet with this id.
-fn dangles_with(sheets: &[Sheet], indexes: &BTreeMap<u32, usize>, id: u32) -> bool
-    ensures { AreAtIndexes indexes.now sheets.now → IsDistinct nat_eq (map (λ s. s.id) sheets.now)
-        → result ≡ dangles_at id sheets.now }
-{
-    match sheet_with(sheets, indexes, id) {
-        Some(sheet) => dangles(sheet),
-        None => false,
-    }
 }
 
 /// The ids of the sheets in which something dangles, and this one, where there is a sheet with it.

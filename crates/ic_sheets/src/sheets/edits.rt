@@ -105,6 +105,7 @@ impl Sheets {
         let was = dangles(sheet);
         sheet.fill(pool, grid, tab);
         settle(&mut self.dangling, sheet.id, was, dangles(sheet));
+        self.mentioners.note_from(sheet.id, &sheet.pool, 0);
     }
 
     /// Gives the sheet at an index, from 0, another name, and leaves all formulas. `OutOfMemory` changes nothing.

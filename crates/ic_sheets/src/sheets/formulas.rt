@@ -41,8 +41,10 @@ impl Sheets {
     {
         let sheet = &mut self.list[index];
         let was = dangles(sheet);
+        let count = sheet.pool.len();
         let written = sheet.write(row, column, formula, kind, style);
         settle(&mut self.dangling, sheet.id, was, dangles(sheet));
+        self.mentioners.note_from(sheet.id, &sheet.pool, count);
         written
     }
 
@@ -66,8 +68,10 @@ impl Sheets {
     {
         let sheet = &mut self.list[index];
         let was = dangles(sheet);
+        let count = sheet.pool.len();
         let written = sheet.write_array(styles, block, formula);
         settle(&mut self.dangling, sheet.id, was, dangles(sheet));
+        self.mentioners.note_from(sheet.id, &sheet.pool, count);
         written
     }
 
@@ -94,8 +98,10 @@ impl Sheets {
     {
         let sheet = &mut self.list[index];
         let was = dangles(sheet);
+        let count = sheet.pool.len();
         let placed = sheet.place_copy(formula, steps);
         settle(&mut self.dangling, sheet.id, was, dangles(sheet));
+        self.mentioners.note_from(sheet.id, &sheet.pool, count);
         placed
     }
 }
