@@ -37,7 +37,7 @@ use Rattle.ic_definitions.specs.Named.{key_in}
 use Rattle.ic_definitions.specs.Remade.{remade_body, touched_bodies}
 use Rattle.ic_sheets.proofs.RemadeLemmas.{remade_fits, remade_looks_up, remade_made}
 use Rattle.ic_sheets.specs.Remade.{AreRemade, looks_up_remade, remade_pool}
-use Rattle.ic_sheets.specs.Rewriting.{FitSheets, look_ups, sheets_of, with_all_rewrites}
+use Rattle.ic_sheets.specs.Rewriting.{FitOwn, look_ups, sheets_of, with_own_rewrites}
 use Rattle.ic_sheets.specs.Sheet.{Sheet, sheet_of}
 use Rattle.ic_sheets.specs.declared.sheet.Sheet.{Sheet as HeldSheet}
 use Rattle.ic_parts.specs.Book.{Book, HasStrings, ModelState, notations_in, whole_of, whole_sheet}
@@ -162,7 +162,7 @@ module _ (inside : Inside) (h : IsHeld inside) (u : Update) (checked : CheckedUp
       update_within : checked.index < length inside.contents.definitions
       update_within = slice_get_within ds checked.index there.0 there.1
 
-      update_fits : FitSheets prepared.formulas.items inside.contents.sheets
+      update_fits : FitOwn prepared.formulas.items inside.contents.sheets
       update_fits = remade_fits here prepared.formulas.items ws p.formulas
 
       abbrev new : Definition
@@ -194,7 +194,7 @@ module _ (inside : Inside) (h : IsHeld inside) (u : Update) (checked : CheckedUp
         update_apart : list_any (same_key (key_in definition)) (remove (map key_in inside.contents.definitions) checked.index) ≡ false
         update_apart = subst (λ (d : Definition). list_any (same_key (key_in d)) (remove (map key_in ds) checked.index) ≡ false) (sym new_is) apart
 
-        module _ (now : List HeldSheet) (nds : List Definition) (sheets : now ≡ with_all_rewrites prepared.formulas.items inside.contents.sheets) (names : nds ≡ updated_at (λ d. definition) checked.index (with_bodies prepared.bodies.bodies.items inside.contents.definitions)) where
+        module _ (now : List HeldSheet) (nds : List Definition) (sheets : now ≡ with_own_rewrites prepared.formulas.items inside.contents.sheets) (names : nds ≡ updated_at (λ d. definition) checked.index (with_bodies prepared.bodies.bodies.items inside.contents.definitions)) where
           sheets_are : sheets_of now ≡ map (remade_pool its) (sheets_of ws)
           sheets_are = ap sheets_of sheets ∙ remade_made here prepared.formulas.items ws p.formulas ∙ ap (λ (r : Remade). map (remade_pool r) (sheets_of ws)) same_rule
 
@@ -254,14 +254,14 @@ module _ (inside : Inside) (h : IsHeld inside) (m : ModelState) (is : held_state
         pub within_held : checked.index < length inside.contents.definitions
         within_held = update_within inside h u checked checked_here english en prepared prepared_here clear
 
-        pub fits_held : FitSheets prepared.formulas.items inside.contents.sheets
+        pub fits_held : FitOwn prepared.formulas.items inside.contents.sheets
         fits_held = update_fits inside h u checked checked_here english en prepared prepared_here clear
 
         module _ (definition : Definition) (made : definition ≡ record { name = u.new_name; scope = checked.new_scope; has_equals = checked.body.has_equals; body = formulas.Tree (bound (function_of english) (scene_renamed inside.contents.sheets inside.contents.definitions checked.index u.new_name checked.new_scope) checked.new_scope checked.body.tree) }) where
           pub apart_held : list_any (same_key (key_in definition)) (remove (map key_in inside.contents.definitions) checked.index) ≡ false
           apart_held = update_apart inside h u checked checked_here english en prepared prepared_here clear definition made
 
-          module _ (now : List HeldSheet) (nds : List Definition) (sheets : now ≡ with_all_rewrites prepared.formulas.items inside.contents.sheets) (names : nds ≡ updated_at (λ d. definition) checked.index (with_bodies prepared.bodies.bodies.items inside.contents.definitions)) where
+          module _ (now : List HeldSheet) (nds : List Definition) (sheets : now ≡ with_own_rewrites prepared.formulas.items inside.contents.sheets) (names : nds ≡ updated_at (λ d. definition) checked.index (with_bodies prepared.bodies.bodies.items inside.contents.definitions)) where
             pub updated_held : IsHeld (with_contents now nds inside)
             updated_held = update_held inside h u checked checked_here english en prepared prepared_here clear definition made now nds sheets names
 

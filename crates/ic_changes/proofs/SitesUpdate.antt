@@ -36,7 +36,7 @@ use Rattle.ic_parts.specs.Sites.{IsUpdate, kept_where_touched, listed_sites, sit
 
 -- Formulas that are kept where an update touches them are an update: what it doesn't touch isn't captured, and what is kept
 -- has the same shape.
-pub kept_update : (english : List ℕ → Option ℕ) (before after : Scene) (old new : NameKey) (sheets : List HeldSheet) (definitions : List Definition) (formulas : List RewritesState) (bodies : List NewBody)
+pub kept_update : (english : List ℕ → Option ℕ) (before after : Scene) (old new : NameKey) (sheets : List HeldSheet) (definitions : List Definition) (formulas : List (ℕ × RewritesState)) (bodies : List NewBody)
     → AreRemade (kept_where_touched english before after old new) formulas sheets → bodies ≡ touched_bodies (kept_where_touched english before after old new) 0 definitions
     → AllByRecursion (λ (s : HeldSheet). AllByRecursion (LeavesUntouched (kept_where_touched english before after old new) (Some s.id)) s.pool.formulas) sheets
     → AllByRecursion (LeavesBody (kept_where_touched english before after old new)) definitions
@@ -73,7 +73,7 @@ module _ (book : Book) (u : Update) (index : ℕ) (found : updated_index (whole_
     pools_kept [] = refl
     pools_kept (s ∷ ss) = ap (λ rest. whole_sheet book.strings (remade_pool rule s) ∷ rest) (pools_kept ss)
 
-    pub listed_kept : (sheets : List HeldSheet) (formulas : List RewritesState) (bodies : List NewBody) → IsUpdate rule (keys_of_update whole u) sheets book.definitions formulas bodies → sheets_of sheets ≡ book.sheets
+    pub listed_kept : (sheets : List HeldSheet) (formulas : List (ℕ × RewritesState)) (bodies : List NewBody) → IsUpdate rule (keys_of_update whole u) sheets book.definitions formulas bodies → sheets_of sheets ≡ book.sheets
         → map site_of (listed_sites (keys_of_update whole u) (old_key whole u) sheets book.definitions formulas bodies)
         ≡ captured_sites (keys_of_update whole u) (old_key whole u) whole (changed_with (keys_of_update whole u) (with_update whole u has_equals body (Some index)) whole)
     listed_kept sheets formulas bodies update held =
@@ -92,7 +92,7 @@ module _ (book : Book) (u : Update) (index : ℕ) (found : updated_index (whole_
       ∙ ap (λ o. captured_sites (keys_of_update whole u) (old_key whole u) whole (changed_with (keys_of_update whole u) (with_update whole u body.has_equals (bound_body body) o) whole)) found)
 
   -- what is listed of an update is what it captures
-  pub listed_is_captured : (body : Body) → update_body (notations_in whole) (core_of whole) u.body ≡ Some body → (sheets : List HeldSheet) (formulas : List RewritesState) (bodies : List NewBody)
+  pub listed_is_captured : (body : Body) → update_body (notations_in whole) (core_of whole) u.body ≡ Some body → (sheets : List HeldSheet) (formulas : List (ℕ × RewritesState)) (bodies : List NewBody)
       → IsUpdate (rule body.has_equals (bound_body body)) (keys_of_update whole u) sheets book.definitions formulas bodies → sheets_of sheets ≡ book.sheets
       → map site_of (listed_sites (keys_of_update whole u) (old_key whole u) sheets book.definitions formulas bodies) ≡ update_sites whole u
   listed_is_captured body e sheets formulas bodies update held = listed_kept body.has_equals (bound_body body) sheets formulas bodies update held ∙ sites_by_body body e

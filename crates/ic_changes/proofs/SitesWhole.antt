@@ -24,7 +24,7 @@ use Rattle.ic_machine.specs.Content.{content_of, formula_in, formula_index}
 use Rattle.ic_machine.specs.Refusal.{CellSite, Site}
 use Rattle.ic_pool.specs.Remade.{LeavesUntouched, Remade}
 use Rattle.ic_pool.specs.Rewrites.{RewritesState}
-use Rattle.ic_sheets.specs.Remade.{AreRemade, IsRemade, remade_pool}
+use Rattle.ic_sheets.specs.Remade.{IsRemade, remade_pool, rewrites_of}
 use Rattle.ic_sheets.specs.Rewriting.{sheets_of}
 use Rattle.ic_sheets.specs.Sheet.{sheet_of}
 use Rattle.ic_sheets.specs.declared.sheet.Sheet.{Sheet as HeldSheet}
@@ -62,25 +62,23 @@ module _ (strings : List (List ℕ)) (made : Remade) (keys : KeyChange) (spared 
       (finite.entries s.grid.cells)
       ∙ ap (flat_map (λ (entry : Entry). captured_at keys (whole_sheet strings (sheet_of s)) (whole_sheet strings (remade_pool made (sheet_of s))) entry.0 (formula_index entry.1))) (sym (entries-seen (content_of strings) s.grid.cells))
 
-  sheets_seen : (formulas : List RewritesState) (ss : List HeldSheet) → AreRemade made formulas ss → AllByRecursion (λ (s : HeldSheet). AllByRecursion (LeavesUntouched made (Some s.id)) s.pool.formulas) ss
+  sheets_seen : (formulas : List (ℕ × RewritesState)) (ss : List HeldSheet) → AllByRecursion (λ (s : HeldSheet). IsRemade made (rewrites_of formulas s.id) s) ss → AllByRecursion (λ (s : HeldSheet). AllByRecursion (LeavesUntouched made (Some s.id)) s.pool.formulas) ss
       → map site_of (sites_of_sheets keys formulas ss) ≡ flat_map (captured_cells keys) (zip (map (whole_sheet strings) (sheets_of ss)) (map (whole_sheet strings) (map (remade_pool made) (sheets_of ss))))
-  sheets_seen [] [] are stay = refl
-  sheets_seen [] (s ∷ ss) are stay = absurd are
-  sheets_seen (r ∷ rs) [] are stay = absurd are
-  sheets_seen (r ∷ rs) (s ∷ ss) are stay =
-      map-append site_of (sheet_sites keys r s) (sites_of_sheets keys rs ss) ∙ ap₂ (λ (a b : List Site). a ++ b) (sheet_seen r s are.0 stay.0) (sheets_seen rs ss are.1 stay.1)
+  sheets_seen formulas [] are stay = refl
+  sheets_seen formulas (s ∷ ss) are stay =
+      map-append site_of (sheet_sites keys (rewrites_of formulas s.id) s) (sites_of_sheets keys formulas ss)
+      ∙ ap₂ (λ (a b : List Site). a ++ b) (sheet_seen (rewrites_of formulas s.id) s are.0 stay.0) (sheets_seen formulas ss are.1 stay.1)
 
-module _ (made : Remade) (keys : KeyChange) (sheets : List HeldSheet) (definitions : List Definition) (formulas : List RewritesState) (bodies : List NewBody) (update : IsUpdate made keys sheets definitions formulas bodies) where
-  pools_alike : (rs : List RewritesState) (ss : List HeldSheet) → AreRemade made rs ss → AreAlikePools rs ss
-  pools_alike [] ss are = tt
-  pools_alike (r ∷ rs) [] are = tt
-  pools_alike (r ∷ rs) (s ∷ ss) are =
-      (subst (AllByRecursion (IsAlikeIn s.pool.formulas)) (sym are.0.listed) (alike_from made keys (Some s.id) s.pool.formulas (update.alike (Some s.id)) s.pool.formulas 0 refl), pools_alike rs ss are.1)
+module _ (made : Remade) (keys : KeyChange) (sheets : List HeldSheet) (definitions : List Definition) (formulas : List (ℕ × RewritesState)) (bodies : List NewBody) (update : IsUpdate made keys sheets definitions formulas bodies) where
+  pools_alike : (ss : List HeldSheet) → AllByRecursion (λ (s : HeldSheet). IsRemade made (rewrites_of formulas s.id) s) ss → AreAlikePools formulas ss
+  pools_alike [] are = tt
+  pools_alike (s ∷ ss) are =
+      (subst (AllByRecursion (IsAlikeIn s.pool.formulas)) (sym are.0.listed) (alike_from made keys (Some s.id) s.pool.formulas (update.alike (Some s.id)) s.pool.formulas 0 refl), pools_alike ss are.1)
 
   -- what an update prepared keeps the shapes of the formulas
   pub update_alike : AreAlikePools formulas sheets × AllByRecursion (IsAlikeBody definitions) bodies
   update_alike = (
-    pools_alike formulas sheets update.pools,
+    pools_alike sheets update.pools.each,
     subst (AllByRecursion (IsAlikeBody definitions)) (sym update.bodies_listed) (alike_bodies_from made definitions update.alike definitions 0 refl),
   )
 
@@ -93,7 +91,7 @@ module _ (made : Remade) (keys : KeyChange) (sheets : List HeldSheet) (definitio
   listed_captured book after updated new index held defined sheets_after definitions_after its =
       map-append site_of (sites_of_sheets keys formulas sheets) _
       ∙ ap₂ (λ (a b : List Site). a ++ b)
-      (sheets_seen book.strings made keys update.spared formulas sheets update.pools update.formulas_stay
+      (sheets_seen book.strings made keys update.spared formulas sheets update.pools.each update.formulas_stay
       ∙ ap (λ ss. flat_map (captured_cells keys) (zip (map (whole_sheet book.strings) ss) (map (whole_sheet book.strings) (map (remade_pool made) ss)))) held
       ∙ ap (λ ss. flat_map (captured_cells keys) (zip (map (whole_sheet book.strings) book.sheets) ss)) (sym sheets_after))
       (ap (λ bs. map site_of (flat_map (body_sites keys updated definitions) bs)) update.bodies_listed

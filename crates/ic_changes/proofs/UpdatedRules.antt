@@ -40,7 +40,7 @@ module _ (english : List ℕ → Option ℕ) (contents : Contents) (index : ℕ)
     pub made_leaves_bodies : AllByRecursion (LeavesBody made) contents.definitions
     made_leaves_bodies = subst (λ (r : Remade). AllByRecursion (LeavesBody r) contents.definitions) (sym is) leaves.bodies
 
-    module _ (formulas : List RewritesState) (bodies : BodyRewrites) (pools : AreRemade made formulas contents.sheets) (listed : bodies.bodies.items ≡ touched_bodies made 0 contents.definitions) where
+    module _ (formulas : List (ℕ × RewritesState)) (bodies : BodyRewrites) (pools : AreRemade made formulas contents.sheets) (listed : bodies.bodies.items ≡ touched_bodies made 0 contents.definitions) where
       pools_by_rule : AreRemade its formulas contents.sheets
       pools_by_rule = subst (λ (r : Remade). AreRemade r formulas contents.sheets) is pools
 
@@ -60,5 +60,5 @@ module _ (english : List ℕ → Option ℕ) (contents : Contents) (index : ℕ)
         made = ap (λ (w : BodyRewrites). with_bodies w.bodies.items contents.definitions) b ∙ made_so ∙ ap (λ (r : Remade). map (remade_body r) contents.definitions) is;
         listed = ap (λ (w : BodyRewrites). w.bodies.items) b ∙ listed_by_rule;
         fits = subst (λ (w : BodyRewrites). FitsBodies w contents.definitions) (sym b) fits;
-        sites = sites ∙ ap₂ (λ (fs : List RewritesState) (w : BodyRewrites). listed_sites (changed_key change.old change.new) change.old contents.sheets contents.definitions fs w.bodies.items) (sym a) (sym b);
+        sites = sites ∙ ap₂ (λ (fs : List (ℕ × RewritesState)) (w : BodyRewrites). listed_sites (changed_key change.old change.new) change.old contents.sheets contents.definitions fs w.bodies.items) (sym a) (sym b);
       }

@@ -78,7 +78,7 @@ pub fn copy_sheet(
         alloc, contents, names, english, index, id, copies, places, bodies,
     ) {
         Ok(filling) => {
-            contents.sheets.apply_own(prepared);
+            contents.sheets.apply(prepared);
             filling.put(&mut contents.sheets, place);
             Ok(())
         }

@@ -1,5 +1,5 @@
 -- Where an update of a definition would capture a word.
-use Rattle.std.specs.Prelude.{◌≡◌, ℕ, List, [], ◌∷◌, ◌++◌, flat_map, Bool, false, ◌&&◌, not, Option, Some, None, nat_eq, if◌then◌else◌}
+use Rattle.std.specs.Prelude.{◌≡◌, ℕ, List, [], ◌∷◌, ◌++◌, flat_map, Bool, false, ◌&&◌, not, Option, Some, None, find, nat_eq, if◌then◌else◌}
 use Rattle.std.specs.FinMap as finite
 use Rattle.std.specs.List.{AllByRecursion, list_any, slice_get}
 use Rattle.std.specs.Option.{IfSome, option_map_or}
@@ -22,7 +22,7 @@ use Rattle.ic_machine.specs.Refusal.{CellSite, DefinitionSite}
 use Rattle.ic_pool.specs.Remade.{LeavesUntouched, Remade}
 use Rattle.ic_pool.specs.Rewrites.{RewritesState}
 use Rattle.ic_pool.specs.declared.pool.rewrites.Replacement.{Replacement}
-use Rattle.ic_sheets.specs.Remade.{AreRemade}
+use Rattle.ic_sheets.specs.Remade.{AreRemade, rewrites_of}
 use Rattle.ic_sheets.specs.declared.sheet.Sheet.{Sheet}
 use Rattle.ic_parts.specs.declared.sites.MentionSite.{MentionSite}
 use Rattle.ic_parts.specs.declared.sites.MentionSite.TheVariants as sites
@@ -48,10 +48,8 @@ IsAlikeIn pool new = IfSome (slice_get pool new.at) (λ formula. AreAlikeFormula
 abbrev pub IsAlikeBody : List Definition → NewBody → Type 0
 IsAlikeBody definitions new = IfSome (slice_get definitions new.at) (λ definition. AreAlikeFormulas definition.body new.body)
 
-abbrev pub AreAlikePools : List RewritesState → List Sheet → Type 0
-AreAlikePools [] sheets = Unit {0}
-AreAlikePools (rewrites ∷ more) [] = Unit {0}
-AreAlikePools (rewrites ∷ more) (sheet ∷ sheets) = AllByRecursion (IsAlikeIn sheet.pool.formulas) rewrites.changes × AreAlikePools more sheets
+abbrev pub AreAlikePools : List (ℕ × RewritesState) → List Sheet → Type 0
+AreAlikePools prepared sheets = AllByRecursion (λ s. AllByRecursion (IsAlikeIn s.pool.formulas) (rewrites_of prepared s.id).changes) sheets
 
 module _ (keys : KeyChange) where
   -- what a formula of a pool becomes captures a word of it
@@ -67,10 +65,12 @@ module _ (keys : KeyChange) where
   sheet_sites rewrites sheet = sites_in sheet.id (captures_at sheet.pool.formulas rewrites.changes) (finite.entries sheet.grid.cells)
 
   -- those of all sheets, in their order, each with what was prepared for it
-  abbrev pub sites_of_sheets : List RewritesState → List Sheet → List MentionSite
-  sites_of_sheets [] sheets = []
-  sites_of_sheets (rewrites ∷ more) [] = []
-  sites_of_sheets (rewrites ∷ more) (sheet ∷ sheets) = sheet_sites rewrites sheet ++ sites_of_sheets more sheets
+  abbrev pub sites_of_sheets : List (ℕ × RewritesState) → List Sheet → List MentionSite
+  sites_of_sheets prepared sheets = flat_map (λ s. sheet_sites (rewrites_of prepared s.id) s) sheets
+
+  -- those of the sheet with this id, where there is one
+  abbrev pub prepared_sites : List Sheet → ℕ × RewritesState → List MentionSite
+  prepared_sites sheets prepared = option_map_or (sheet_sites prepared.1) (find (λ s. nat_eq s.id prepared.0) sheets) []
 
   -- a definition other than the updated one, if what its body becomes captures a word of it
   abbrev pub body_site : NameKey → Formula → Definition → List MentionSite
@@ -86,12 +86,12 @@ module _ (keys : KeyChange) where
   sites_of_bodies updated definitions bodies = flat_map (body_sites updated definitions) bodies
 
   -- all of them
-  abbrev pub listed_sites : NameKey → List Sheet → List Definition → List RewritesState → List NewBody → List MentionSite
+  abbrev pub listed_sites : NameKey → List Sheet → List Definition → List (ℕ × RewritesState) → List NewBody → List MentionSite
   listed_sites updated sheets definitions formulas bodies = sites_of_sheets formulas sheets ++ sites_of_bodies updated definitions bodies
 
 -- An update was prepared by a rule, for the formulas of all sheets and the bodies of all definitions: what the rule doesn't
 -- touch stays and isn't captured, and what it makes anew keeps its shape.
-pub record IsUpdate (made : Remade) (keys : KeyChange) (sheets : List Sheet) (definitions : List Definition) (formulas : List RewritesState) (bodies : List NewBody) : Type 0 where
+pub record IsUpdate (made : Remade) (keys : KeyChange) (sheets : List Sheet) (definitions : List Definition) (formulas : List (ℕ × RewritesState)) (bodies : List NewBody) : Type 0 where
   pub pools : AreRemade made formulas sheets
   pub bodies_listed : bodies ≡ touched_bodies made 0 definitions
   pub formulas_stay : AllByRecursion (λ (s : Sheet). AllByRecursion (LeavesUntouched made (Some s.id)) s.pool.formulas) sheets

@@ -1,13 +1,14 @@
 //! Where an update of a definition would capture words.
-ghost use Rattle.std.specs.Prelude.{◌≡◌, ◌++◌, ℕ, IfOk, OnOk, option_map};
+ghost use Rattle.std.specs.Prelude.{◌≡◌, ◌++◌, ℕ, IfOk, IfSome, OnOk, find, map, nat_eq, option_map, true};
 ghost use Rattle.std.specs.BTreeMap as tree;
 ghost use Rattle.std.specs.BTreeSet.{contains};
-ghost use Rattle.std.specs.List.{AllByRecursion, slice_get};
+ghost use Rattle.std.specs.List.{AllByRecursion, IsDistinct, slice_get};
 ghost use Rattle.std.specs.Ordering.{nat_cmp};
 ghost use Rattle.ic_laws.specs.Keeping.{changed_key};
 ghost use Rattle.ic_cells.specs.Cell.{cell_formula_index};
 ghost use Rattle.ic_cells.specs.Maps.{place_cmp};
-ghost use Rattle.ic_parts.specs.Sites.{AreAlikePools, IsAlikeBody, IsAlikeIn, body_sites, captures, captures_at, listed_sites, sheet_sites, site_if, sites_in, sites_of_bodies, sites_of_sheets};
+ghost use Rattle.ic_sheets.specs.Index.{is_part};
+ghost use Rattle.ic_parts.specs.Sites.{AreAlikePools, IsAlikeBody, IsAlikeIn, body_sites, captures, captures_at, listed_sites, prepared_sites, sheet_sites, site_if, sites_in, sites_of_bodies, sites_of_sheets};
 
 use crate::contents::Contents;
 use ic_cells::Cell;
@@ -15,7 +16,7 @@ use ic_definitions::{BodyRewrites, Definition, NewBody};
 use ic_keep::{KeyChange, captured_formula};
 use ic_laws::{NameKey, OutOfMemory};
 use ic_pool::{Pool, Replacement, Rewrites, copy_key, same_key};
-use ic_sheets::Sheet;
+use ic_sheets::{Sheet, Sheets};
 use std::alloc::Global;
 use std::collections::{BTreeMap, BTreeSet};
 use std::fmt;
@@ -65,10 +66,13 @@ pub fn sites_of_update(
     alloc: Global,
     contents: &Contents,
     change: &KeyChange,
-    formulas: &[Rewrites],
+    formulas: &[(u32, Rewrites)],
     bodies: &BodyRewrites,
 ) -> Result<Vec<MentionSite>, OutOfMemory>
     requires pools { AreAlikePools formulas.now contents.now.sheets }
+    requires ordered { is_part (map (λ p. p.0) formulas.now)
+        (map (λ s. s.id) contents.now.sheets) ≡ true }
+    requires apart { IsDistinct nat_eq (map (λ s. s.id) contents.now.sheets) }
     requires bodies { AllByRecursion (IsAlikeBody contents.now.definitions)
         bodies.now.bodies.items }
     ensures { IfOk result (λ sites. sites.items
@@ -76,8 +80,7 @@ pub fn sites_of_update(
         contents.now.sheets contents.now.definitions formulas.now bodies.now.bodies.items) }
 {
     let mut sites = Vec::new(alloc);
-    let sheets = contents.sheets.as_slice();
-    push_sheets(alloc, &mut sites, sheets, formulas, change)?;
+    push_sheets(alloc, &mut sites, &contents.sheets, formulas, change)?;
     let definitions = contents.definitions.as_slice();
     push_bodies(alloc, &mut sites, definitions, bodies.bodies(), change)?;
     Ok(sites)
@@ -87,27 +90,40 @@ pub fn sites_of_update(
 fn push_sheets(
     alloc: Global,
     sites: &mut Vec<MentionSite>,
-    sheets: &[Sheet],
-    formulas: &[Rewrites],
+    sheets: &Sheets,
+    formulas: &[(u32, Rewrites)],
     change: &KeyChange,
 ) -> Result<(), OutOfMemory>
-    requires { AreAlikePools formulas.now sheets.now }
+    requires pools { AreAlikePools formulas.now sheets.now }
+    requires ordered { is_part (map (λ p. p.0) formulas.now) (map (λ s. s.id) sheets.now) ≡ true }
+    requires apart { IsDistinct nat_eq (map (λ s. s.id) sheets.now) }
     ensures { OnOk result (sites.new.items ≡ sites.old.items ++ sites_of_sheets
         (changed_key change.now.old change.now.new) formulas.now sheets.now) }
 {
-    for (index, sheet) in sheets.iter().enumerate() {
-        if let Some(rewrites) = prepared_at(formulas, index) {
-            push_sheet(alloc, sites, sheet, rewrites, change)?;
-        }
+    for prepared in formulas {
+        push_prepared(alloc, sites, sheets, prepared.0, &prepared.1, change)?;
     }
     Ok(())
 }
 
-/// What was prepared for the sheet at an index, from 0. None past the end.
-fn prepared_at(formulas: &[Rewrites], index: usize) -> Option<&Rewrites>
-    ensures { option_map (λ r. r.now) result ≡ slice_get formulas.now index }
+/// Puts the captured cells of the sheet with this id at the end, where there is one.
+fn push_prepared(
+    alloc: Global,
+    sites: &mut Vec<MentionSite>,
+    sheets: &Sheets,
+    id: u32,
+    rewrites: &Rewrites,
+    change: &KeyChange,
+) -> Result<(), OutOfMemory>
+    requires { IfSome (find (λ s. nat_eq s.id id) sheets.now)
+        (λ s. AllByRecursion (IsAlikeIn s.pool.formulas) rewrites.now.changes) }
+    ensures { OnOk result (sites.new.items ≡ sites.old.items ++ prepared_sites
+        (changed_key change.now.old change.now.new) sheets.now (id, rewrites.now)) }
 {
-    formulas.get(index)
+    match sheets.with_id(id) {
+        Some(sheet) => push_sheet(alloc, sites, sheet, rewrites, change),
+        None => Ok(()),
+    }
 }
 
 /// Puts the captured cells of a sheet at the end. Where there are none its cells aren't walked.

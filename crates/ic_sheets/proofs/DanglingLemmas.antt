@@ -10,7 +10,7 @@ use Rattle.std.specs.List.{AllByRecursion, IsDistinct, filter, insert, list_any,
 use Rattle.ic_sheets.proofs.IndexLemmas.{set_parts, split_at}
 use Rattle.ic_sheets.proofs.PlaceLemmas.{alone}
 use Rattle.ic_sheets.proofs.SearchLemmas.{ids}
-use Rattle.ic_sheets.specs.Index.{AreDangling, dangles, dangles_at, dangling_ids, is_id, is_listed}
+use Rattle.ic_sheets.specs.Index.{AreDangling, dangles, dangles_at, is_id, is_listed}
 use Rattle.ic_sheets.specs.declared.sheet.Sheet.{Sheet}
 
 or_exchange : (a b c : Bool) → (a || (b || c)) ≡ (b || (a || c))
@@ -198,60 +198,6 @@ module _ (now : List ℕ) (sheets : List Sheet) (at : ℕ) (s : Sheet) (d : AreD
         differ = there.differ;
       })
 
--- ---- all of them anew
-
-dangling_ids-append : (xs : List Sheet) (s : Sheet) → dangling_ids (xs ++ s ∷ []) ≡ cond (dangles s) (dangling_ids xs ++ s.id ∷ []) (dangling_ids xs)
-dangling_ids-append [] s = refl
-dangling_ids-append (x ∷ xs) s = ap (λ ys. cond (dangles x) (x.id ∷ ys) ys) (dangling_ids-append xs s) ∙ step (dangles x) (dangles s)
-  where
-    step : (a b : Bool) → cond a (x.id ∷ cond b (dangling_ids xs ++ s.id ∷ []) (dangling_ids xs)) (cond b (dangling_ids xs ++ s.id ∷ []) (dangling_ids xs))
-        ≡ cond b (cond a (x.id ∷ dangling_ids xs) (dangling_ids xs) ++ s.id ∷ []) (cond a (x.id ∷ dangling_ids xs) (dangling_ids xs))
-    step true true = refl
-    step true false = refl
-    step false true = refl
-    step false false = refl
-
-pub noted : (xs : List Sheet) (s : Sheet) → dangles s ≡ true → dangling_ids (xs ++ s ∷ []) ≡ dangling_ids xs ++ s.id ∷ []
-noted xs s e = dangling_ids-append xs s ∙ ap (λ b. cond b (dangling_ids xs ++ s.id ∷ []) (dangling_ids xs)) e
-
-pub passed : (xs : List Sheet) (s : Sheet) → dangles s ≡ false → dangling_ids (xs ++ s ∷ []) ≡ dangling_ids xs
-passed xs s e = dangling_ids-append xs s ∙ ap (λ b. cond b (dangling_ids xs ++ s.id ∷ []) (dangling_ids xs)) e
-
-listed_anew : (q : ℕ) (sheets : List Sheet) → is_listed q (dangling_ids sheets) ≡ dangles_at q sheets
-listed_anew q [] = refl
-listed_anew q (s ∷ sheets) = step (dangles s) (nat_eq q s.id) (listed_anew q sheets)
-  where
-    step : (a b : Bool) → is_listed q (dangling_ids sheets) ≡ dangles_at q sheets → is_listed q (cond a (s.id ∷ dangling_ids sheets) (dangling_ids sheets)) ≡ (nat_eq q s.id && a || dangles_at q sheets)
-    step true b e = and_then (nat_eq q s.id) e
-      where
-        and_then : (c : Bool) → is_listed q (dangling_ids sheets) ≡ dangles_at q sheets → (c || is_listed q (dangling_ids sheets)) ≡ (c && true || dangles_at q sheets)
-        and_then true e = refl
-        and_then false e = e
-    step false b e = e ∙ none (nat_eq q s.id)
-      where
-        none : (c : Bool) → dangles_at q sheets ≡ (c && false || dangles_at q sheets)
-        none true = refl
-        none false = refl
-
-ids_anew : (P : ℕ → Type 0) (xs : List Sheet) → AllByRecursion P (ids xs) → AllByRecursion P (dangling_ids xs)
-ids_anew P [] h = tt
-ids_anew P (x ∷ xs) h = one (dangles x) h.0 (ids_anew P xs h.1)
-  where
-    one : (b : Bool) → P x.id → AllByRecursion P (dangling_ids xs) → AllByRecursion P (cond b (x.id ∷ dangling_ids xs) (dangling_ids xs))
-    one true p rest = (p, rest)
-    one false p rest = rest
-
-apart_anew : (sheets : List Sheet) → IsDistinct nat_eq (ids sheets) → IsDistinct nat_eq (dangling_ids sheets)
-apart_anew [] d = d
-apart_anew (s ∷ sheets) d = step (dangles s) (ids_anew (λ y. nat_eq s.id y ≡ false) sheets (IsDistinct-head nat_eq s.id (ids sheets) d)) (apart_anew sheets (IsDistinct-tail nat_eq s.id (ids sheets) d))
-  where
-    step : (b : Bool) → AllByRecursion (λ y. nat_eq s.id y ≡ false) (dangling_ids sheets) → IsDistinct nat_eq (dangling_ids sheets) → IsDistinct nat_eq (cond b (s.id ∷ dangling_ids sheets) (dangling_ids sheets))
-    step true other rest = IsDistinct-cons nat_eq s.id (dangling_ids sheets) other rest
-    step false other rest = rest
-
-pub dangling_anew : (now : List ℕ) (sheets : List Sheet) → IsDistinct nat_eq (ids sheets) → now ≡ dangling_ids sheets → AreDangling now sheets
-dangling_anew now sheets d e = subst (λ xs. AreDangling xs sheets) (sym e) (record { finds = λ q. listed_anew q sheets; differ = apart_anew sheets d })
-
 -- ---- those of the ids that are left
 
 all_filter : (P : ℕ → Type 0) (p : ℕ → Bool) (xs : List ℕ) → AllByRecursion P xs → AllByRecursion P (filter p xs)
@@ -306,18 +252,3 @@ left_alone now id b is q = step (nat_eq q id) refl
     step : (c : Bool) → nat_eq q id ≡ c → is_listed q now ≡ cond c b (is_listed q now)
     step true e = ap (λ k. is_listed k now) (eqb-true q id e) ∙ is
     step false e = refl
-
--- those are left whose sheet still has something that dangles
-pub dangling_kept : (now after : List ℕ) (before sheets : List Sheet) → AreDangling now before → ((q : ℕ) → dangles_at q sheets ≡ true → dangles_at q before ≡ true) → after ≡ filter (λ id. dangles_at id sheets) now → AreDangling after sheets
-dangling_kept now after before sheets d fewer e = record {
-  finds = λ q. ap (is_listed q) e ∙ listed_filter (λ id. dangles_at id sheets) q now ∙ ap (λ b. b && dangles_at q sheets) (d.finds q) ∙ step q (dangles_at q sheets) refl;
-  differ = subst (IsDistinct nat_eq) (sym e) (distinct_filter (λ id. dangles_at id sheets) now d.differ);
-}
-  where
-    step : (q : ℕ) (b : Bool) → dangles_at q sheets ≡ b → (dangles_at q before && b) ≡ b
-    step q true is = ap (λ c. c && true) (fewer q is)
-    step q false is = and_false (dangles_at q before)
-      where
-        and_false : (a : Bool) → (a && false) ≡ false
-        and_false true = refl
-        and_false false = refl

@@ -7,8 +7,10 @@ pub mod InsertLemmas
 pub mod KeptLemmas
 pub mod KeyLemmas
 pub mod MakesLemmas
+pub mod MentionerLemmas
 pub mod NumberLemmas
 pub mod OwnLemmas
+pub mod PartLemmas
 pub mod PlaceLemmas
 pub mod PoolLemmas
 pub mod RecordLemmas

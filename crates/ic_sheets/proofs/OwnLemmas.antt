@@ -1,12 +1,12 @@
 -- What was prepared for sheets, done by their ids after a sheet came or got another name.
 use Rattle.std.proofs.Common.{◌≡◌, ℕ, zero, suc, ◌<◌, inl, inr, option_map, List, [], ◌∷◌, ◌++◌, Bool, true, false, cond, ◌&&◌, ◌||◌, Option, Some, None, map, length, get_or, slice_set, take, drop, nat_eq, refl, sym, ap, ap₂, subst, ◌∙◌, arith}
 use Rattle.std.proofs.lemmas.Bool.{cases_Bool, eqb-true, or_parts}
-use Rattle.std.proofs.lemmas.List.{append-nil, length-map, map-append, take_at}
+use Rattle.std.proofs.lemmas.List.{append-nil, map-append}
 use Rattle.std.proofs.lemmas.List.Sorted.{IsPermutation-middle}
 use Rattle.std.proofs.lemmas.Map.Keys.{IsDistinct-IsPermutation, IsDistinct-head, IsDistinct-tail}
 use Rattle.std.specs.Cmp.{nat_eq_equiv}
-use Rattle.std.specs.List.{AllByRecursion, IsDistinct, insert, list_any}
-use Rattle.ic_laws.proofs.core.Lists.{updated_unseen}
+use Rattle.std.specs.List.{AllByRecursion, IsDistinct, insert, list_any, remove}
+use Rattle.ic_laws.proofs.core.Lists.{removed_seen, updated_unseen}
 use Rattle.ic_laws.specs.Changes.{Change}
 use Rattle.ic_laws.specs.CoreStep.{updated_at}
 use Rattle.ic_pool.specs.Rewrites.{FitsPool, RewritesState}
@@ -17,7 +17,7 @@ use Rattle.ic_sheets.proofs.MakesLemmas.{Own, own_ids, own_new, own_none, own_ot
 use Rattle.ic_sheets.proofs.PlaceLemmas.{alone, some_apart}
 use Rattle.ic_sheets.proofs.RewritingLemmas.{called, sheet_called, sheets_called}
 use Rattle.ic_sheets.proofs.SearchLemmas.{ids}
-use Rattle.ic_sheets.specs.Index.{dangles, dangles_at, is_id, is_listed}
+use Rattle.ic_sheets.specs.Index.{is_id, is_listed}
 use Rattle.ic_sheets.specs.Rewriting.{FitOwn, FitsSheet, Makes, changed_pool, look_ups, looks_up_after, own_rewrites, rewritten_if, sheets_of, with_own_rewrites, with_rewrites}
 use Rattle.ic_sheets.specs.Search.{index_with_id}
 use Rattle.ic_sheets.specs.Sheet.{sheet_of}
@@ -40,22 +40,6 @@ same_names ps (s ∷ sheets) = ap₂ ◌∷◌ (step (own_rewrites s.id ps)) (sa
     step : (o : Option RewritesState) → (rewritten_if o s).name ≡ s.name
     step None = refl
     step (Some w) = refl
-
-either_dangles : (a b c r t : Bool) → (b ≡ true → c ≡ true) → (r ≡ true → t ≡ true) → (a && b || r) ≡ true → (a && c || t) ≡ true
-either_dangles true true c r t one more e = ap (λ x. x || t) (one refl)
-either_dangles true false true r t one more e = refl
-either_dangles true false false r t one more e = more e
-either_dangles false b c r t one more e = more e
-
--- where something dangles after it, something did before
-pub fewer_dangle : (ps : Own) (q : ℕ) (xs : List HeldSheet) → AllByRecursion (λ s. FitsSheet (own_rewrites s.id ps) s) xs → dangles_at q (with_own_rewrites ps xs) ≡ true → dangles_at q xs ≡ true
-fewer_dangle ps q [] f e = e
-fewer_dangle ps q (s ∷ xs) f e = step (own_rewrites s.id ps) f.0 e (fewer_dangle ps q xs f.1)
-  where
-    step : (o : Option RewritesState) → FitsSheet o s → (nat_eq q (rewritten_if o s).id && dangles (rewritten_if o s) || dangles_at q (with_own_rewrites ps xs)) ≡ true
-        → (dangles_at q (with_own_rewrites ps xs) ≡ true → dangles_at q xs ≡ true) → (nat_eq q s.id && dangles s || dangles_at q xs) ≡ true
-    step None i e rest = either_dangles (nat_eq q s.id) (dangles s) (dangles s) _ _ (λ h. h) rest e
-    step (Some w) i e rest = either_dangles (nat_eq q s.id) (dangles (with_rewrites w s)) (dangles s) _ _ i.1 rest e
 
 distinct_init : (xs : List ℕ) (y : ℕ) → IsDistinct nat_eq (xs ++ y ∷ []) → IsDistinct nat_eq xs × (list_any (nat_eq y) xs ≡ false)
 distinct_init xs y d =
@@ -158,7 +142,7 @@ module _ (all ps : Own) (id : ℕ) (w : RewritesState) (sheets : List HeldSheet)
       fit_parts = subst (AllByRecursion (λ x. FitsSheet (own_rewrites x.id both) x)) parts fit_both.fits
 
       pub own_fits : FitsPool w s.pool.formulas
-      own_fits = (subst (λ o. FitsSheet o s) own_of_it (inside front fit_parts)).0
+      own_fits = subst (λ o. FitsSheet o s) own_of_it (inside front fit_parts)
         where
           inside : (xs : List HeldSheet) → AllByRecursion (λ x. FitsSheet (own_rewrites x.id both) x) (xs ++ s ∷ back) → FitsSheet (own_rewrites s.id both) s
           inside [] h = h.0
@@ -207,13 +191,14 @@ module _ (all ps : Own) (id : ℕ) (w : RewritesState) (sheets : List HeldSheet)
               let parts = or_parts (nat_eq id x.id) (list_any (nat_eq id) (ids (xs ++ back))) e in
               (subst (λ o. FitsSheet o x) (own_other x.id id w ps (nat_eq_equiv.symm x.id id ∙ parts.0)) h.0, fit xs parts.1 h.1)
 
--- a vector whose elements were rewritten through a slice
-pub own_back : (n : ℕ) (ps : Own) (old now new : List HeldSheet) → new ≡ with_own_rewrites ps now → now ≡ old → n ≡ length old → take n (new ++ drop (length new) old) ≡ with_own_rewrites ps old
-own_back n ps old now new made same counted =
-    let is : new ≡ with_own_rewrites ps old = made ∙ ap (with_own_rewrites ps) same in
-    ap (λ k. take k (new ++ drop (length new) old)) (counted ∙ sym (ap length is ∙ length-map old (λ s. rewritten_if (own_rewrites s.id ps) s))) ∙ take_at new (drop (length new) old) (length new) refl ∙ is
-
 -- ---- whole changes
+
+pub deleted_made : (change : Change) (ps : Own) (old new : List HeldSheet) (index : ℕ) → Makes change ps old → new ≡ remove (with_own_rewrites ps old) index → sheets_of new ≡ remove (map (changed_pool change) (sheets_of old)) index
+deleted_made change ps old new index makes done = ap sheets_of done ∙ removed_seen sheet_of (with_own_rewrites ps old) index ∙ ap (λ xs. remove xs index) makes.made
+
+pub deleted_looks_up : (change : Change) (ps : Own) (old new : List HeldSheet) (index : ℕ) → Makes change ps old → new ≡ remove (with_own_rewrites ps old) index → look_ups new ≡ remove (map (looks_up_after change) old) index
+deleted_looks_up change ps old new index makes done =
+    ap look_ups done ∙ removed_seen (λ (x : HeldSheet). x.pool.is_whole) (with_own_rewrites ps old) index ∙ ap (λ xs. remove xs index) makes.looks_up
 
 module _ (change : Change) (ps : Own) (old : List HeldSheet) (makes : Makes change ps old) where
   -- nothing was prepared for an id that no sheet has

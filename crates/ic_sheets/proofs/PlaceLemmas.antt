@@ -57,7 +57,7 @@ first_at id sheets place e = ap (option_and_then (slice_get sheets)) (e ∙ sym 
 
 -- ---- the look-up
 
-same_number : (k q : ℕ) → is_eq (nat_cmp k q) ≡ nat_eq k q
+pub same_number : (k q : ℕ) → is_eq (nat_cmp k q) ≡ nat_eq k q
 same_number k q = step (nat_lt k q) refl (nat_eq k q) refl
   where
     step : (b : Bool) → nat_lt k q ≡ b → (c : Bool) → nat_eq k q ≡ c → is_eq (cond b Less (cond c Equal Greater)) ≡ c
@@ -149,7 +149,7 @@ raised_later at (Some n) = ap (λ k. Some k) (more at n)
 first_stays : (at : ℕ) → raised (suc at) 0 ≡ 0
 first_stays at = grind arith
 
-place_middle : (front back : List Sheet) (s : Sheet) → list_any (nat_eq s.id) (ids (front ++ back)) ≡ false → (q : ℕ) → index_with_id q (front ++ s ∷ back) ≡ cond (nat_eq s.id q) (Some (length front)) (option_map (raised (length front)) (index_with_id q (front ++ back)))
+pub place_middle : (front back : List Sheet) (s : Sheet) → list_any (nat_eq s.id) (ids (front ++ back)) ≡ false → (q : ℕ) → index_with_id q (front ++ s ∷ back) ≡ cond (nat_eq s.id q) (Some (length front)) (option_map (raised (length front)) (index_with_id q (front ++ back)))
 place_middle [] back s free q = ap (cond (nat_eq s.id q) (Some 0)) (raised_first (index_with_id q back))
 place_middle (x ∷ front) back s free q =
     let parts = or_parts (nat_eq s.id x.id) (list_any (nat_eq s.id) (ids (front ++ back))) free in

@@ -1,6 +1,6 @@
 -- What becomes of the formulas of all sheets where a rule makes them anew.
-use Rattle.std.specs.Prelude.{◌≡◌, ◌&&◌, ℕ, List, [], Bool, Some, map, not, true}
-use Rattle.std.specs.List.{AllByRecursion, list_any}
+use Rattle.std.specs.Prelude.{◌≡◌, ◌&&◌, ℕ, List, [], Bool, Some, map, nat_eq, not, true}
+use Rattle.std.specs.List.{AllByRecursion, IsDistinct, list_any}
 use Rattle.std.specs.Option.{unwrap_or}
 use Rattle.ic_pool.specs.Remade.{Remade, touched_from}
 use Rattle.ic_pool.specs.Rewrites.{FitsPool, RewritesState, rewritten_by}
@@ -31,7 +31,8 @@ nothing = record { changes = []; places = [] }
 abbrev pub rewrites_of : List (ℕ × RewritesState) → ℕ → RewritesState
 rewrites_of prepared id = unwrap_or (own_rewrites id prepared) nothing
 
--- These were prepared for all sheets, by their ids and in the order of the sheets.
+-- These were prepared for all sheets, by their ids, of which no two are equal, and in the order of the sheets.
 pub record AreRemade (rule : Remade) (prepared : List (ℕ × RewritesState)) (sheets : List HeldSheet) : Type 0 where
   pub each : AllByRecursion (λ s. IsRemade rule (rewrites_of prepared s.id) s) sheets
   pub ordered : is_part (map (λ p. p.0) prepared) (map (λ s. s.id) sheets) ≡ true
+  pub apart : IsDistinct nat_eq (map (λ s. s.id) sheets)

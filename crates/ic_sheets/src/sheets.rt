@@ -205,8 +205,8 @@ impl Sheets {
         Some(sheet.name.as_str())
     }
 
-    /// The sheet with this id.
-    fn with_id(&self, id: u32) -> Option<&Sheet>
+    /// The sheet with this id. None exactly where there is none.
+    pub fn with_id(&self, id: u32) -> Option<&Sheet>
         ensures { option_map (λ s. s.now) result ≡ find (λ s. nat_eq s.id id) self.now }
     {
         match self.index_of_id(id) {

@@ -43,7 +43,7 @@ pub fn add_definition(
     let added = DefinitionAdded::new(definition.name(), definition.key());
     let formulas = contents.sheets.prepare_added(&added)?;
     contents.definitions.add(places, definition)?;
-    contents.sheets.apply_own(formulas);
+    contents.sheets.apply(formulas);
     Ok(())
 }
 

@@ -9,7 +9,7 @@ ghost use Rattle.ic_laws.specs.declared.tree.Formula.TheVariants as formulas;
 ghost use Rattle.ic_tree.specs.LanguageWords.{function_of};
 ghost use Rattle.ic_definitions.specs.Bodies.{FitsBodies, with_bodies};
 ghost use Rattle.ic_definitions.specs.Named.{FindsNames, key_in};
-ghost use Rattle.ic_sheets.specs.Rewriting.{FitSheets, with_all_rewrites};
+ghost use Rattle.ic_sheets.specs.Rewriting.{FitOwn, with_own_rewrites};
 ghost use Rattle.ic_machine.specs.Capture.{has_sites};
 ghost use Rattle.ic_parts.specs.Names.{IsIndexed};
 ghost use Rattle.ic_parts.specs.Scene.{scene_of_parts, scene_renamed};
@@ -111,7 +111,7 @@ impl<'u> Remaking for Updating<'u> {
 
 /// What an update makes of the formulas of each sheet and of the bodies of definitions, and where it would capture.
 pub struct PreparedUpdate {
-    pub formulas: Vec<Rewrites>,
+    pub formulas: Vec<(u32, Rewrites)>,
     pub bodies: BodyRewrites,
     pub sites: Vec<MentionSite>,
 }
@@ -164,10 +164,10 @@ impl PreparedUpdate {
         requires within { index < length contents.old.definitions }
         requires apart { list_any (same_key (key_in definition))
             (remove (map key_in contents.old.definitions) index) ≡ false }
-        requires formulas { FitSheets self.formulas.items contents.old.sheets }
+        requires formulas { FitOwn self.formulas.items contents.old.sheets }
         requires bodies { FitsBodies self.bodies contents.old.definitions }
         ensures sheets { OnOk result (contents.new.sheets
-            ≡ with_all_rewrites self.formulas.items contents.old.sheets) }
+            ≡ with_own_rewrites self.formulas.items contents.old.sheets) }
         ensures definitions { OnOk result (contents.new.definitions
             ≡ updated_at (λ d. definition) index
             (with_bodies self.bodies.bodies.items contents.old.definitions)) }

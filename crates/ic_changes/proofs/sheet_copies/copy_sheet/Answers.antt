@@ -28,7 +28,7 @@ returns-in-Ok-clause-ok c = λ source at.
     (read_is c.as_slice.result.now c.args.contents.now.sheets c.args.index c.index-as_slice-index.result source c.as_slice.ensures.sheets c.requires.within c.index-as_slice-index.is at)
     (c.in_ok-copies.ensures.copies ∙ ap (λ (s : HeldSheet). map (local_in c.args.id) (copied_of s.id c.args.contents.now.definitions)) (sym c.index-as_slice-index.is)) (ap (λ n. n.definitions.now) c.new-both.ensures.first) (ap (λ n. n.definitions.now) c.new-both.ensures.more)
     c.insert_unapplied.new.self c.in_ok-prepared.ensures.ok c.in_ok-prepared.prepared.items c.in_ok-bodies.bodies.bodies.items c.in-Ok.filling _
-    c.add_copies.new.contents.sheets c.apply_own.new.self c.in_ok-prepared.ensures.made c.in_ok-prepared.ensures.looks_up c.in-Ok.ensures.sheets c.apply_own.ensures c.put.ensures c.in-Ok.ensures.filling c.in_ok-bodies.ensures.made c.in-Ok.ensures.definitions
+    c.add_copies.new.contents.sheets c.apply.new.self c.in_ok-prepared.ensures.made c.in_ok-prepared.ensures.looks_up c.in-Ok.ensures.sheets c.apply.ensures c.put.ensures c.in-Ok.ensures.filling c.in_ok-bodies.ensures.made c.in-Ok.ensures.definitions
 
 pub returns-in-Err-clause-err : goal.returns-in-Err-clause-err
 returns-in-Err-clause-err c =
@@ -36,5 +36,5 @@ returns-in-Err-clause-err c =
 
 pub returns-in-Ok-clause-indexed : goal.returns-in-Ok-clause-indexed
 returns-in-Ok-clause-indexed c =
-    let own = indexed_same c.add_copies.new.names c.add_copies.new.contents.sheets c.apply_own.new.self c.add_copies.new.contents.definitions c.add_copies.ensures.indexed (ap names c.apply_own.ensures ∙ same_names _ _) (ap ids c.apply_own.ensures ∙ same_ids _ _) in
-    indexed_updated c.add_copies.new.names c.apply_own.new.self c.put.new.sheets c.add_copies.new.contents.definitions own _ _ c.put.ensures (λ s. refl)
+    let own = indexed_same c.add_copies.new.names c.add_copies.new.contents.sheets c.apply.new.self c.add_copies.new.contents.definitions c.add_copies.ensures.indexed (ap names c.apply.ensures ∙ same_names _ _) (ap ids c.apply.ensures ∙ same_ids _ _) in
+    indexed_updated c.add_copies.new.names c.apply.new.self c.put.new.sheets c.add_copies.new.contents.definitions own _ _ c.put.ensures (λ s. refl)

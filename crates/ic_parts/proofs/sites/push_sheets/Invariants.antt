@@ -1,10 +1,11 @@
 use Rattle.std.proofs.Common.{◌≡◌, ◌++◌, drop}
+use Rattle.std.specs.Prelude.{flat_map}
 use Rattle.ic_laws.specs.Keeping.{changed_key}
-use Rattle.ic_parts.specs.Sites.{sites_of_sheets}
+use Rattle.ic_parts.specs.Sites.{prepared_sites}
 use Rattle.ic_parts.proofs.sites.push_sheets.Given as goal
 
--- what is listed so far, and the sites of the sheets that are left
-abbrev pub invariant-loop-index : goal.invariant-loop-index
-invariant-loop-index l =
-    l.sites.items ++ sites_of_sheets (changed_key l.change.old l.change.new) (drop l.index l.formulas) (drop l.index l.sheets)
-    ≡ l.initial.sites.items ++ sites_of_sheets (changed_key l.change.old l.change.new) l.formulas l.sheets
+-- what is listed so far, and the sites of what is left
+abbrev pub invariant-loop-prepared : goal.invariant-loop-prepared
+invariant-loop-prepared l =
+    l.sites.items ++ flat_map (prepared_sites (changed_key l.change.old l.change.new) l.sheets) (drop l.prepared-index l.formulas)
+    ≡ l.initial.sites.items ++ flat_map (prepared_sites (changed_key l.change.old l.change.new) l.sheets) l.formulas

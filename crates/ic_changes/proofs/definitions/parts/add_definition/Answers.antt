@@ -11,11 +11,11 @@ returns-clause-sheets c =
     let added : c.new-added.result ≡ spelling_of c.args.definition =
     c.new-added.ensures
     ∙ ap₂ (λ (name : List ℕ) (scope : Option ℕ). let spelling : NameSpelling = record { name = name; scope = scope } in spelling) c.name.ensures (ap (λ (key : NameKey). key.scope) c.key.ensures) in
-    ap sheets_of c.apply_own.ensures ∙ c.in_ok-formulas.ensures.made ∙ ap (λ (d : NameSpelling). map (changed_pool (definition_added d)) (sheets_of c.args.contents.now.sheets)) added
+    ap sheets_of c.apply.ensures ∙ c.in_ok-formulas.ensures.made ∙ ap (λ (d : NameSpelling). map (changed_pool (definition_added d)) (sheets_of c.args.contents.now.sheets)) added
 
 pub returns-clause-looks_up : goal.returns-clause-looks_up
 returns-clause-looks_up c =
     let added : c.new-added.result ≡ spelling_of c.args.definition =
     c.new-added.ensures
     ∙ ap₂ (λ (name : List ℕ) (scope : Option ℕ). let spelling : NameSpelling = record { name = name; scope = scope } in spelling) c.name.ensures (ap (λ (key : NameKey). key.scope) c.key.ensures) in
-    ap look_ups c.apply_own.ensures ∙ c.in_ok-formulas.ensures.looks_up ∙ ap (λ (d : NameSpelling). map (looks_up_after (definition_added d)) c.args.contents.now.sheets) added
+    ap look_ups c.apply.ensures ∙ c.in_ok-formulas.ensures.looks_up ∙ ap (λ (d : NameSpelling). map (looks_up_after (definition_added d)) c.args.contents.now.sheets) added

@@ -1,5 +1,6 @@
 use Rattle.std.proofs.Common.{◌≡◌, ◌∙◌, ap, ap₂, sym, subst, subst₂, refl, arith, length-append, ◌++◌, ◌∷◌, [], Some, false, true, chars, encode_utf8_all, length, nat_eq, string_bytes}
 use Rattle.std.specs.List.{list_any}
+use Rattle.ic_laws.proofs.core.Lists.{all_pushed}
 use Rattle.ic_laws.specs.Name.{agrees, fold}
 use Rattle.ic_sheets.proofs.DanglingLemmas.{dangling_pushed}
 use Rattle.ic_sheets.proofs.IndexLemmas.{put_by_name}
@@ -7,6 +8,7 @@ use Rattle.ic_sheets.proofs.KeptLemmas.{kept_pushed}
 use Rattle.ic_sheets.proofs.PlaceLemmas.{placed_pushed, placed_undone}
 use Rattle.ic_sheets.proofs.SearchLemmas.{ids, names}
 use Rattle.ic_sheets.specs.Index.{AreDangling, AreKept}
+use Rattle.ic_sheets.specs.Mentioners.{KnowsPool, KnowsSheets}
 use Rattle.ic_sheets.specs.Sheet.{empty_grid, plain_tab}
 use Rattle.ic_sheets.specs.declared.sheet.Sheet.{Sheet}
 use Rattle.ic_sheets.proofs.KeptLemmas.{finds_pushed}
@@ -26,6 +28,7 @@ invariant_of-self-in-Ok c =
           c.in_ok-insert.ensures.updates pushed,
       dangling_pushed c.reserve-2.new.self.items sheets c.push_reserved.new.self.items s (subst (λ xs. AreDangling xs sheets) (sym c.reserve-2.ensures.items) c.self.invariant.2) refl pushed,
       omega (arith, ap length pushed, length-append sheets (s ∷ []), c.in_ok-reserve-2.ensures, c.len-place.ensures, c.reserve.new.self.ok.0, ap length c.reserve.ensures.items),
+      subst (KnowsSheets c.self.inside.mentioners) (sym pushed) (all_pushed (λ (x : Sheet). KnowsPool c.self.inside.mentioners x.id x.pool.formulas) sheets s c.self.invariant.4 tt),
     )
 
 pub invariant_of-self-in-Err-1 : goal.invariant_of-self-in-Err-1
@@ -36,6 +39,7 @@ invariant_of-self-in-Err-1 c =
       placed_undone c.self.inside.indexes c.insert.new.self c.remove.new.self sheets c.reserve.new.self.items c.args.id (Some c.len-place.result) c.self.invariant.1 fresh c.in_ok-insert.ensures.updates c.remove.ensures.updates c.reserve.ensures.items,
       subst₂ AreDangling (sym c.reserve-2.ensures.items) (sym c.reserve.ensures.items) c.self.invariant.2,
       omega (arith, ap length c.reserve.ensures.items, c.self.invariant.3, c.reserve-2.ensures.capacity),
+      subst (KnowsSheets c.self.inside.mentioners) (sym c.reserve.ensures.items) c.self.invariant.4,
     )
 
 pub returns-in-Ok-clause-finds : goal.returns-in-Ok-clause-finds

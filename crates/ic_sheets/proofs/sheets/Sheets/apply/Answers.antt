@@ -1,29 +1,55 @@
-use Rattle.std.proofs.Common.{ap, arith, length, subst, sym, ◌∙◌}
-use Rattle.std.specs.List.{IsDistinct}
-use Rattle.std.specs.Prelude.{nat_eq}
-use Rattle.ic_sheets.proofs.DanglingLemmas.{dangling_anew}
-use Rattle.ic_sheets.proofs.KeptLemmas.{kept_same}
-use Rattle.ic_sheets.proofs.PlaceLemmas.{placed_same}
-use Rattle.ic_sheets.proofs.RewritingLemmas.{AreNothing, ids_rewritten, length_rewritten, names_rewritten, nothing_done, written_back}
-use Rattle.ic_sheets.proofs.SearchLemmas.{ids, names}
-use Rattle.ic_sheets.specs.Index.{dangling_ids}
+use Rattle.std.proofs.Common.{◌≡◌, ◌∙◌, None, Some, ap, arith, subst, sym, refl}
+use Rattle.std.specs.List.{IsDistinct, slice_get}
+use Rattle.std.specs.Prelude.{IfSome, nat_eq}
+use Rattle.ic_pool.specs.Rewrites.{FitsPool}
+use Rattle.ic_sheets.proofs.IndexLemmas.{set_updated}
+use Rattle.ic_sheets.proofs.OwnLemmas.{missed, nothing_left, own_done, own_fits, own_within}
+use Rattle.ic_sheets.proofs.PlaceLemmas.{place_is}
+use Rattle.ic_sheets.proofs.RewritingLemmas.{read_back, sheet_there}
+use Rattle.ic_sheets.proofs.SearchLemmas.{ids}
+use Rattle.ic_sheets.specs.Rewriting.{FitOwn, with_own_rewrites, with_rewrites}
+use Rattle.ic_sheets.specs.Search.{index_with_id}
+use Rattle.ic_sheets.specs.declared.sheet.Sheet.{Sheet}
 use Rattle.ic_sheets.proofs.sheets.Sheets.apply.Goals as goal
 
-pub note_dangling-requires : goal.note_dangling-requires
-note_dangling-requires c =
-    let back = written_back c.self.inside.list.len c.args.prepared.items c.self.inside.list.items c.deref_mut.result.now c.apply_all.new.sheets c.apply_all.ensures c.deref_mut.ensures.value c.self.inside.list.ok.0 in
-    omega (arith, ap length (c.deref-2.ensures.value ∙ back), length_rewritten c.args.prepared.items c.self.inside.list.items, c.self.invariant.3)
+pub apply_at-requires-clause-within : goal.apply_at-requires-clause-within
+apply_at-requires-clause-within c =
+    let at : index_with_id c.in-Some.id c.loop-id.self ≡ Some c.in-Some-index_of_id.index = place_is c.in-Some.id c.loop-id.self ∙ sym c.index_of_id.ensures ∙ c.in-Some-index_of_id.is in
+    own_within c.loop-id.prepared.items c.pop.new.self.items c.in-Some.id c.in-Some.rewrites c.loop-id.self c.in-Some.ensures.items c.loop-id.invariant.fits c.in-Some-index_of_id.index at
 
-pub returns-then-change_nothing : goal.returns-then-change_nothing
-returns-then-change_nothing c =
-    sym (nothing_done c.args.prepared.items c.args.self.now (subst AreNothing c.deref.ensures.value (c.change_nothing.ensures c.if-change_nothing.true)))
+pub apply_at-requires-clause-fits : goal.apply_at-requires-clause-fits
+apply_at-requires-clause-fits c =
+    let sheets = c.loop-id.self in
+    let index = c.in-Some-index_of_id.index in
+    let at : index_with_id c.in-Some.id sheets ≡ Some index = place_is c.in-Some.id sheets ∙ sym c.index_of_id.ensures ∙ c.in-Some-index_of_id.is in
+    let one = sheet_there sheets index (own_within c.loop-id.prepared.items c.pop.new.self.items c.in-Some.id c.in-Some.rewrites sheets c.in-Some.ensures.items c.loop-id.invariant.fits index at) in
+    subst (λ o. IfSome o (λ (s : Sheet). FitsPool c.in-Some.rewrites s.pool.formulas)) (sym one.1)
+    (own_fits c.loop-id.prepared.items c.pop.new.self.items c.in-Some.id c.in-Some.rewrites sheets c.in-Some.ensures.items c.loop-id.invariant.fits index at one.0 (read_back sheets index one.0 one.1))
 
-pub invariant_of-self : goal.invariant_of-self
-invariant_of-self c =
-    let back = written_back c.self.inside.list.len c.args.prepared.items c.self.inside.list.items c.deref_mut.result.now c.apply_all.new.sheets c.apply_all.ensures c.deref_mut.ensures.value c.self.inside.list.ok.0 in
-    let same_ids = ap ids back ∙ ids_rewritten c.args.prepared.items c.self.inside.list.items in (
-      kept_same c.self.inside.greatest c.self.inside.list.items _ c.self.invariant.0 (ap names back ∙ names_rewritten c.args.prepared.items c.self.inside.list.items) same_ids,
-      placed_same c.self.inside.indexes c.self.inside.list.items _ c.self.invariant.1 same_ids,
-      dangling_anew c.note_dangling.new.ids.items _ (subst (IsDistinct nat_eq) (sym same_ids) c.self.invariant.0.ids_differ) (c.note_dangling.ensures.ids ∙ ap dangling_ids c.deref-2.ensures.value),
-      omega (arith, ap length back, length_rewritten c.args.prepared.items c.self.inside.list.items, c.self.invariant.3, c.note_dangling.ensures.capacity),
-    )
+pub loop-id-preserved-in-Some-index_of_id : goal.loop-id-preserved-in-Some-index_of_id
+loop-id-preserved-in-Some-index_of_id c =
+    let i = c.loop-id.invariant in
+    let sheets = c.loop-id.self in
+    let index = c.in-Some-index_of_id.index in
+    let w = c.in-Some.rewrites in
+    let at : index_with_id c.in-Some.id sheets ≡ Some index = place_is c.in-Some.id sheets ∙ sym c.index_of_id.ensures ∙ c.in-Some-index_of_id.is in
+    let one = sheet_there sheets index (own_within c.loop-id.prepared.items c.pop.new.self.items c.in-Some.id w sheets c.in-Some.ensures.items i.fits index at) in
+    let read = read_back sheets index one.0 one.1 in
+    let all = own_done c.loop-id.prepared.items c.pop.new.self.items c.in-Some.id w sheets c.in-Some.ensures.items i.fits index at one.0 read (subst (IsDistinct nat_eq) (sym (i.same ∙ ap ids (sym c.self.view_is))) c.self.invariant.0.ids_differ) (with_rewrites w one.0) refl in
+    let is = c.apply_at.ensures ∙ sym (set_updated (with_rewrites w) sheets index one.0 read) in
+    record {
+      left = ap (with_own_rewrites c.pop.new.self.items) is ∙ all.0 ∙ i.left;
+      fits = subst (FitOwn c.pop.new.self.items) (sym is) all.1;
+      same = ap ids is ∙ all.2 ∙ i.same;
+    }
+
+pub loop-id-preserved : goal.loop-id-preserved
+loop-id-preserved c =
+    let i = c.loop-id.invariant in
+    let none : index_with_id c.in-Some.id c.loop-id.self ≡ None = place_is c.in-Some.id c.loop-id.self ∙ sym c.index_of_id.ensures ∙ c.in_default-index_of_id.is in
+    let all = missed c.loop-id.prepared.items c.pop.new.self.items c.in-Some.id c.in-Some.rewrites c.loop-id.self c.in-Some.ensures.items i.fits none in
+    record { left = all.0 ∙ i.left; fits = all.1; same = i.same }
+
+pub returns : goal.returns
+returns c =
+    c.renew.ensures ∙ sym (nothing_left c.loop-id.prepared.items c.loop-id.self (omega (arith, c.in_default.ensures.cases.0, c.loop-id.prepared.ok.0))) ∙ c.loop-id.invariant.left

@@ -2,6 +2,7 @@ use Rattle.std.proofs.Common.{◌≡◌, ◌<◌, ◌∙◌, ℕ, ap, sym, subst
 use Rattle.ic_laws.specs.CoreStep.{updated_at}
 use Rattle.ic_sheets.proofs.DanglingLemmas.{dangling_over, length_over, listed_at, room_at}
 use Rattle.ic_sheets.proofs.IndexLemmas.{set_updated}
+use Rattle.ic_sheets.proofs.MentionerLemmas.{known_over}
 use Rattle.ic_sheets.proofs.PlaceLemmas.{placed_same}
 use Rattle.ic_sheets.proofs.WriteLemmas.{IsLike, kept_over, seen_over}
 use Rattle.ic_sheets.specs.Index.{is_listed}
@@ -20,6 +21,7 @@ invariant_of-self c =
       dangling_over c.self.inside.dangling.items sheets c.args.index s c.self.invariant.2 c.self.invariant.0.ids_differ lt c.index_mut-sheet.ensures.value c.settle.new.ids.items c.dangles.result
           (subst (λ (k : ℕ). (q : ℕ) → is_listed q c.settle.new.ids.items ≡ cond (nat_eq q k) c.dangles.result (is_listed q c.self.inside.dangling.items)) like.id c.settle.ensures.finds) c.settle.ensures.differ after like.id c.dangles.ensures,
       omega (arith, c.settle.ensures.capacity, c.self.invariant.3, length_over sheets c.args.index after),
+      known_over c.self.inside.mentioners c.note_from.new.self sheets c.args.index after c.self.invariant.4 c.note_from.ensures.kept c.note_from.ensures.noted,
     )
 
 pub settle-requires-clause-was : goal.settle-requires-clause-was

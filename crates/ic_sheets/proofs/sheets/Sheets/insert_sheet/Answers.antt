@@ -6,5 +6,5 @@ use Rattle.ic_sheets.proofs.sheets.Sheets.insert_sheet.Goals as goal
 
 pub returns-clause-finds : goal.returns-clause-finds
 returns-clause-finds g c =
-    finds_same c.insert_unapplied.new.ids c.insert_unapplied.new.self c.apply_own.new.self c.in_ok-prepared.ensures.finds
-    (ap names c.apply_own.ensures ∙ same_names c.in_ok-prepared.prepared.items c.insert_unapplied.new.self) (ap ids c.apply_own.ensures ∙ same_ids c.in_ok-prepared.prepared.items c.insert_unapplied.new.self)
+    finds_same c.insert_unapplied.new.ids c.insert_unapplied.new.self c.apply.new.self c.in_ok-prepared.ensures.finds
+    (ap names c.apply.ensures ∙ same_names c.in_ok-prepared.prepared.items c.insert_unapplied.new.self) (ap ids c.apply.ensures ∙ same_ids c.in_ok-prepared.prepared.items c.insert_unapplied.new.self)

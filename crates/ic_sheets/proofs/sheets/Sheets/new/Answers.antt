@@ -1,7 +1,8 @@
-use Rattle.std.proofs.Common.{ap, arith, length}
+use Rattle.std.proofs.Common.{ap, arith, length, subst, sym}
 use Rattle.ic_sheets.proofs.DanglingLemmas.{dangling_empty}
 use Rattle.ic_sheets.proofs.KeptLemmas.{kept_empty}
 use Rattle.ic_sheets.proofs.PlaceLemmas.{placed_empty}
+use Rattle.ic_sheets.specs.Mentioners.{KnowsSheets}
 use Rattle.ic_sheets.proofs.sheets.Sheets.new.Goals as goal
 
 pub invariant_of-result : goal.invariant_of-result
@@ -10,4 +11,5 @@ invariant_of-result c = (
   placed_empty c.new-2.result c.new.result.items c.new-2.ensures.empty c.new.ensures.items,
   dangling_empty c.new-3.result.items c.new.result.items c.new-3.ensures.items c.new.ensures.items,
   omega (arith, ap length c.new.ensures.items),
+  subst (KnowsSheets c.new-4.result) (sym c.new.ensures.items) tt,
 )

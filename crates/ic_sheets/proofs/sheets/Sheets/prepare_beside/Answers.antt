@@ -1,10 +1,8 @@
 use Rattle.std.proofs.Common.{List, Some, subst, subst₂, sym, ◌∙◌, ℕ}
-use Rattle.std.proofs.lemmas.Bool.{eqb-true}
 use Rattle.std.proofs.lemmas.Result.{IfOk-weaker}
 use Rattle.std.specs.List.{IsDistinct}
 use Rattle.std.specs.Prelude.{nat_eq}
-use Rattle.ic_pool.specs.Mentions.{KeepsAllFound}
-use Rattle.ic_sheets.proofs.MakesLemmas.{each_makes, looked_at_known}
+use Rattle.ic_sheets.proofs.MakesLemmas.{each_makes, found_stay, looked_at_known}
 use Rattle.ic_sheets.proofs.SearchLemmas.{ids}
 use Rattle.ic_sheets.specs.Index.{AreAtIndexes, AreDangling, AreLookedAt}
 use Rattle.ic_sheets.specs.Rewriting.{Makes}
@@ -30,10 +28,10 @@ prepare_own-requires-clause-known g c =
 pub returns : goal.returns
 returns g c =
     let change = g.C.BookChange.change c.args.change.now in
+    let now = c.deref-2.result.now in
     let sheets = c.as_slice-sheets.result.now in
+    let looked = subst (λ (xs : List ℕ). AreLookedAt (Some c.args.id) xs sheets) (sym c.deref-2.ensures.value) c.in_ok-ids.ensures in
+    let differ = subst (λ xs. IsDistinct nat_eq (ids xs)) (sym c.as_slice-sheets.ensures.value) c.self.invariant.0.ids_differ in
     IfOk-weaker c.prepare_own.result _ _
     (λ prepared h. subst (Makes change prepared.items) (c.as_slice-sheets.ensures.value ∙ c.self.view_is)
-    (each_makes change (Some c.args.id) c.deref-2.result.now prepared.items sheets h
-    (subst (λ (xs : List ℕ). AreLookedAt (Some c.args.id) xs sheets) (sym c.deref-2.ensures.value) c.in_ok-ids.ensures)
-    (subst (λ xs. IsDistinct nat_eq (ids xs)) (sym c.as_slice-sheets.ensures.value) c.self.invariant.0.ids_differ) c.requires.spares
-    (λ q e. subst (λ k. KeepsAllFound change (Some k)) (eqb-true c.args.id q e) c.requires.keeps))) c.prepare_own.ensures
+    (each_makes change now prepared.items sheets h (looked_at_known (Some c.args.id) now sheets looked) looked.differ differ (found_stay change (Some c.args.id) now sheets looked differ c.requires))) c.prepare_own.ensures

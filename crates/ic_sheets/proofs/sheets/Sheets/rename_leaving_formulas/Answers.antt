@@ -7,6 +7,7 @@ use Rattle.ic_laws.specs.Name.{agrees, fold}
 use Rattle.ic_sheets.proofs.DanglingLemmas.{dangling_renamed, length_over}
 use Rattle.ic_sheets.proofs.IndexLemmas.{keyed, same_read, set_updated}
 use Rattle.ic_sheets.proofs.KeptLemmas.{kept_renamed}
+use Rattle.ic_sheets.proofs.MentionerLemmas.{known_like}
 use Rattle.ic_sheets.proofs.PlaceLemmas.{placed_same}
 use Rattle.ic_sheets.proofs.SearchLemmas.{ids, names}
 use Rattle.ic_sheets.specs.declared.sheet.Sheet.{Sheet}
@@ -30,6 +31,7 @@ invariant_of-self c =
       placed_same c.self.inside.indexes sheets _ c.self.invariant.1 (ap ids (set_updated called sheets index s c.index_mut-sheet.ensures.value) ∙ updated_unseen (λ (x : Sheet). x.id) called (λ x. refl) index sheets),
       dangling_renamed c.self.inside.dangling.items sheets index s c.self.invariant.2 c.self.invariant.0.ids_differ lt c.index_mut-sheet.ensures.value (called s) refl refl,
       subst (λ n. n ≤ vec_capacity c.self.inside.dangling) (sym (length_over sheets index (called s))) c.self.invariant.3,
+      known_like c.self.inside.mentioners sheets index s (called s) c.self.invariant.4 lt c.index_mut-sheet.ensures.value refl refl,
     )
 
 pub returns-clause-ok : goal.returns-clause-ok

@@ -1,12 +1,15 @@
 use Rattle.std.proofs.Common.{◌<◌, ◌∙◌, ap, sym, subst, refl, false, arith, vec_capacity, length, nat_eq}
 use Rattle.std.specs.List.{IsDistinct}
 use Rattle.std.proofs.lemmas.List.Edits.{length-remove}
+use Rattle.ic_laws.proofs.core.Lists.{all_removed}
 use Rattle.ic_sheets.proofs.DanglingLemmas.{dangling_removed, listed_at, room_at}
 use Rattle.ic_sheets.proofs.KeyLemmas.{found_by_name}
 use Rattle.ic_sheets.proofs.KeptLemmas.{finds_removed, ids_removed, kept_removed}
 use Rattle.ic_sheets.proofs.PlaceLemmas.{lowered_follow}
 use Rattle.ic_sheets.proofs.SearchLemmas.{ids}
 use Rattle.ic_sheets.specs.Index.{AreAtIndexes, FindsSheets, Follow, IsFoundBy, LosesName, lowered}
+use Rattle.ic_sheets.specs.Mentioners.{KnowsPool, KnowsSheets}
+use Rattle.ic_sheets.specs.declared.sheet.Sheet.{Sheet}
 use Rattle.ic_sheets.proofs.sheets.Sheets.take_out.Goals as goal
 
 pub take_key-requires : goal.take_key-requires
@@ -41,6 +44,7 @@ invariant_of-self c =
       dangling_removed c.self.inside.dangling.items sheets c.args.index s c.self.invariant.2 c.self.invariant.0.ids_differ lt c.index-sheet.ensures c.settle.new.ids.items false c.settle.ensures.finds c.settle.ensures.differ
           c.remove-2.new.self.items refl c.remove-2.ensures.items,
       omega (arith, c.settle.ensures.capacity, c.self.invariant.3, ap length c.remove-2.ensures.items, length-remove sheets c.args.index lt),
+      subst (KnowsSheets c.self.inside.mentioners) (sym c.remove-2.ensures.items) (all_removed (λ (x : Sheet). KnowsPool c.self.inside.mentioners x.id x.pool.formulas) sheets c.args.index c.self.invariant.4),
     )
 
 pub settle-requires-clause-was : goal.settle-requires-clause-was

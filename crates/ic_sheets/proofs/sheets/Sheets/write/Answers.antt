@@ -2,6 +2,7 @@ use Rattle.std.proofs.Common.{◌≡◌, ◌<◌, ◌∙◌, ℕ, ap, sym, subst
 use Rattle.std.proofs.lemmas.Result.{on_err_weaker, on_ok_weaker}
 use Rattle.ic_sheets.proofs.CellLemmas.{stored_pair}
 use Rattle.ic_sheets.proofs.DanglingLemmas.{dangling_over, length_over, listed_at, room_at}
+use Rattle.ic_sheets.proofs.MentionerLemmas.{begins_written, known_written}
 use Rattle.ic_sheets.proofs.PlaceLemmas.{placed_same}
 use Rattle.ic_sheets.specs.Index.{is_listed}
 use Rattle.ic_sheets.specs.declared.sheet.Sheet.{Sheet}
@@ -19,6 +20,8 @@ invariant_of-self c =
       dangling_over c.self.inside.dangling.items sheets c.args.index s c.self.invariant.2 c.self.invariant.0.ids_differ lt c.index_mut-sheet.ensures.value c.settle.new.ids.items c.dangles.result
           (subst (λ (k : ℕ). (q : ℕ) → is_listed q c.settle.new.ids.items ≡ cond (nat_eq q k) c.dangles.result (is_listed q c.self.inside.dangling.items)) like.id c.settle.ensures.finds) c.settle.ensures.differ c.write-written.new.self like.id c.dangles.ensures,
       omega (arith, c.settle.ensures.capacity, c.self.invariant.3, length_over sheets c.args.index c.write-written.new.self),
+      known_written c.self.inside.mentioners c.note_from.new.self sheets c.args.index s c.write-written.new.self c.len-count.result c.self.invariant.4 lt c.index_mut-sheet.ensures.value c.note_from.ensures.kept like.id c.len-count.ensures
+          (begins_written c.args.formula c.args.kind c.args.style _ s c.write-written.new.self c.write-written.result c.write-written.ensures.ok c.write-written.ensures.err) c.note_from.ensures.noted,
     )
 
 pub settle-requires-clause-was : goal.settle-requires-clause-was

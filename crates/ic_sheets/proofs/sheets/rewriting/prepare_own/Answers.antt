@@ -1,6 +1,7 @@
 use Rattle.std.proofs.Common.{ap, get_or, option_map, refl, sym, Vec, Global, ℕ, ◌∙◌}
 use Rattle.ic_pool.specs.declared.pool.rewrites.Rewrites.{Rewrites}
 use Rattle.ic_sheets.proofs.MakesLemmas.{each_more, some_sheet}
+use Rattle.ic_sheets.specs.Rewriting.{IsPrepared}
 use Rattle.ic_sheets.proofs.sheets.rewriting.prepare_own.Goals as goal
 use Rattle.ic_sheets.proofs.sheets.rewriting.prepare_own.Goals.{in-Some+in_ok-rewrites+in_ok-push, in_default}
 
@@ -10,7 +11,7 @@ loop-id-preserved g c =
     let found = sym (c.sheet_with.ensures c.requires.placed) in
     elim c.match-sheet_with.branch [
       | in-Some+in_ok-rewrites+in_ok-push w ↦
-          each_more (g.C.BookChange.change c.args.change.now) c.loop-id.prepared.items id w.in_ok-rewrites.rewrites c.args.sheets.now w.in-Some.sheet.now
+          each_more (IsPrepared (g.C.BookChange.change c.args.change.now)) c.loop-id.prepared.items id w.in_ok-rewrites.rewrites c.args.sheets.now w.in-Some.sheet.now
           (found ∙ ap (option_map (λ s. s.now)) w.in-Some.is)
           (record { made = w.in_ok-rewrites.ensures.made; listed = w.in_ok-rewrites.ensures.listed; fits = w.in_ok-rewrites.ensures.fits })
           c.match-sheet_with.prepared.items c.args.ids.now c.loop-id.id-index c.loop-id.invariant c.loop-id-test.true refl

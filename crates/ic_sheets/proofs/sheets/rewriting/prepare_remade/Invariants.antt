@@ -1,10 +1,8 @@
-use Rattle.std.proofs.Common.{◌≡◌, ◌≤◌, length, take, vec_capacity, vec_len}
-use Rattle.ic_sheets.specs.Remade.{AreRemade}
+use Rattle.std.proofs.Common.{take}
+use Rattle.ic_sheets.specs.Remade.{IsRemade}
+use Rattle.ic_sheets.specs.Rewriting.{PreparesEach}
 use Rattle.ic_sheets.proofs.sheets.rewriting.prepare_remade.Given as goal
 
-abbrev pub invariant-loop-sheet : goal.invariant-loop-sheet
-invariant-loop-sheet g l = record {
-  each : AreRemade (g.R.Remaking.made l.remaking) l.prepared.items (take l.sheet-index l.sheets);
-  few : vec_len l.prepared ≤ l.sheet-index;
-  room : vec_capacity l.prepared ≡ length l.sheets;
-}
+-- the first so many ids have what was prepared for their sheets
+abbrev pub invariant-loop-id : goal.invariant-loop-id
+invariant-loop-id g l = PreparesEach (IsRemade (g.R.Remaking.made l.remaking)) l.prepared.items (take l.id-index l.ids) l.sheets
