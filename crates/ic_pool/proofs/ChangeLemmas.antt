@@ -1,5 +1,5 @@
 -- Formulas that a change leaves.
-use Rattle.std.proofs.Common.{◌≡◌, ℕ, Bool, true, false, ◌&&◌, Option, Some, refl, ap, ◌∙◌}
+use Rattle.std.proofs.Common.{◌≡◌, ℕ, List, Bool, true, false, ◌&&◌, Option, Some, refl, ap, ◌∙◌}
 use Rattle.std.specs.Prelude.{bytes_eq}
 use Rattle.ic_laws.proofs.keeping.Kept.{spared_is_same}
 use Rattle.ic_laws.proofs.keeping.Spared.{untouched_is_spared}

@@ -11,7 +11,7 @@ use Rattle.std.specs.List.{AllByRecursion, IsDistinct, list_any, slice_get}
 use Rattle.std.specs.Map.{IsStrictlySortedBy}
 use Rattle.std.specs.Ordering.{nat_cmp}
 use Rattle.std.specs.declared.cmp.Ordering.TheVariants.{Less}
-use Rattle.ic_sheets.proofs.DanglingLemmas.{or_true}
+use Rattle.ic_sheets.proofs.DanglingLemmas.{none_apart, or_true}
 use Rattle.ic_sheets.proofs.PlaceLemmas.{same_number, some_apart}
 use Rattle.ic_sheets.proofs.SearchLemmas.{ids}
 use Rattle.ic_sheets.specs.Index.{is_listed, is_part}
@@ -48,11 +48,7 @@ all_part P (x ∷ xs) (y ∷ ys) e h = step (nat_eq x y) refl e
 
 -- no two of it are equal, if no two of the list are
 pub part_distinct : (xs ys : List ℕ) → is_part xs ys ≡ true → IsDistinct nat_eq ys → IsDistinct nat_eq xs
-part_distinct [] ys e d = none
-  where
-    none : IsDistinct nat_eq []
-    unfolding IsDistinct
-    none = tt
+part_distinct [] ys e d = none_apart
 part_distinct (x ∷ xs) [] e d = cc
 part_distinct (x ∷ xs) (y ∷ ys) e d = step (nat_eq x y) refl e
   where
