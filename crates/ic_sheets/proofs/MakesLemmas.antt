@@ -3,7 +3,7 @@ use Rattle.std.proofs.Common.{◌≡◌, ℕ, zero, suc, ◌+◌, ◌<◌, ◌�
 use Rattle.std.proofs.lemmas.Bool.{and_parts, eqb-true, ltb-false, or_parts}
 use Rattle.std.proofs.lemmas.List.{map-append, take_more}
 use Rattle.std.proofs.lemmas.List.Folds.{list_any-append}
-use Rattle.std.proofs.lemmas.Map.Keys.{IsDistinct-push}
+use Rattle.std.proofs.lemmas.Map.Keys.{IsDistinct-head, IsDistinct-push, IsDistinct-tail}
 use Rattle.std.specs.Cmp.{nat_eq_equiv}
 use Rattle.std.specs.List.{AllByRecursion, IsDistinct, find, list_any}
 use Rattle.ic_laws.specs.Changes.{Change}
@@ -14,9 +14,9 @@ use Rattle.ic_pool.specs.Pool.{dangling_places}
 use Rattle.ic_pool.specs.Remade.{Remade, TouchesAbout}
 use Rattle.ic_pool.specs.Rewrites.{RewritesState}
 use Rattle.ic_pool.specs.Topics.{SparesOthers, mentions_some}
-use Rattle.ic_sheets.proofs.DanglingLemmas.{dangles_here, id_here, or_false, or_true}
+use Rattle.ic_sheets.proofs.DanglingLemmas.{absent, dangles_here, id_here, or_false, or_true}
 use Rattle.ic_sheets.proofs.IndexLemmas.{clash}
-use Rattle.ic_sheets.proofs.PlaceLemmas.{alone}
+use Rattle.ic_sheets.proofs.PlaceLemmas.{alone, some_apart}
 use Rattle.ic_sheets.proofs.RewritingLemmas.{and_true, looked_up, pool_stays, pool_untouched}
 use Rattle.ic_sheets.proofs.SearchLemmas.{ids}
 use Rattle.ic_sheets.specs.Index.{AreDangling, AreLookedAt, dangles, dangles_at, is_id, is_listed}
@@ -101,14 +101,22 @@ id_nowhere id (x ∷ xs) e = step (nat_eq x.id id) refl e (id_nowhere id xs)
     step true is e rest = cc
     step false is e rest = ap₂ (λ a b. a || b) (nat_eq_equiv.symm id x.id ∙ is) (rest e)
 
+pub id_found : (id : ℕ) (xs : List HeldSheet) (s : HeldSheet) → find (λ s. nat_eq s.id id) xs ≡ Some s → is_id id xs ≡ true
+id_found id [] s e = cc
+id_found id (x ∷ xs) s e = step (nat_eq x.id id) refl e (id_found id xs s)
+  where
+    step : (b : Bool) → nat_eq x.id id ≡ b → cond b (Some x) (find (λ s. nat_eq s.id id) xs) ≡ Some s → (find (λ s. nat_eq s.id id) xs ≡ Some s → is_id id xs ≡ true) → (nat_eq id x.id || is_id id xs) ≡ true
+    step true is e rest = ap (λ a. a || is_id id xs) (nat_eq_equiv.symm id x.id ∙ is)
+    step false is e rest = ap (λ b. nat_eq id x.id || b) (rest e) ∙ or_true (nat_eq id x.id)
+
 -- what holds of all sheets holds of the one that was found
 pub found_all : (P : HeldSheet → Type 0) (id : ℕ) (xs : List HeldSheet) (s : HeldSheet) → find (λ s. nat_eq s.id id) xs ≡ Some s → AllByRecursion P xs → P s
 found_all P id [] s e h = cc
-found_all P id (x ∷ xs) s e h = step (nat_eq x.id id) e
+found_all P id (x ∷ xs) s e h = step (nat_eq x.id id) e (λ f. found_all P id xs s f h.1)
   where
-    step : (b : Bool) → cond b (Some x) (find (λ s. nat_eq s.id id) xs) ≡ Some s → P s
-    step true e = let same : x ≡ s = cc in subst P same h.0
-    step false e = found_all P id xs s e h.1
+    step : (b : Bool) → cond b (Some x) (find (λ s. nat_eq s.id id) xs) ≡ Some s → (find (λ s. nat_eq s.id id) xs ≡ Some s → P s) → P s
+    step true e rest = let same : x ≡ s = cc in subst P same h.0
+    step false e rest = rest e
 
 -- each of the ids is that of a sheet
 pub some_sheet : (now : List ℕ) (i id : ℕ) (sheets : List HeldSheet) → AllByRecursion (λ q. is_id q sheets ≡ true) now → i < length now → id ≡ get_or now i 0 → find (λ s. nat_eq s.id id) sheets ≡ None → ⊥
@@ -177,6 +185,20 @@ module _ (now : List ℕ) (id : ℕ) (sheets : List HeldSheet) (d : AreDangling 
       step : (q : ℕ) (b : Bool) → nat_eq id q ≡ b → (dangles_at q sheets || (b || false)) ≡ (dangles_at q sheets || b && is_id q sheets)
       step q false is = refl
       step q true is = ap (λ b. dangles_at q sheets || b) (sym (ap (λ k. is_id k sheets) (sym (eqb-true id q is)) ∙ parts.0))
+
+-- whether something dangles in the sheet that was found
+pub dangles_found : (id : ℕ) (xs : List HeldSheet) (s : HeldSheet) → IsDistinct nat_eq (ids xs) → find (λ x. nat_eq x.id id) xs ≡ Some s → dangles s ≡ dangles_at id xs
+dangles_found id [] s d e = cc
+dangles_found id (x ∷ xs) s d e = step (nat_eq x.id id) refl e (dangles_found id xs s (IsDistinct-tail nat_eq x.id (ids xs) d))
+  where
+    alone_here : nat_eq x.id id ≡ true → dangles_at id xs ≡ false
+    alone_here is = absent id xs (subst (λ k. list_any (nat_eq k) (ids xs) ≡ false) (eqb-true x.id id is) (some_apart x.id (ids xs) (IsDistinct-head nat_eq x.id (ids xs) d)))
+
+    step : (b : Bool) → nat_eq x.id id ≡ b → cond b (Some x) (find (λ x. nat_eq x.id id) xs) ≡ Some s → (find (λ x. nat_eq x.id id) xs ≡ Some s → dangles s ≡ dangles_at id xs) → dangles s ≡ (nat_eq id x.id && dangles x || dangles_at id xs)
+    step true is e rest =
+        let same : x ≡ s = cc in
+        ap dangles (sym same) ∙ sym (ap₂ (λ a b. a && dangles x || b) (nat_eq_equiv.symm id x.id ∙ is) (alone_here is) ∙ or_false (dangles x))
+    step false is e rest = rest e ∙ sym (ap (λ a. a && dangles x || dangles_at id xs) (nat_eq_equiv.symm id x.id ∙ is))
 
 -- ---- what is known of each sheet
 

@@ -1,14 +1,14 @@
 -- What is known of the mentions of sheets stays known, and what it tells of them.
-use Rattle.std.proofs.Common.{◌≡◌, ℕ, zero, suc, ◌<◌, ◌≤◌, List, [], ◌∷◌, ◌++◌, Bool, true, false, cond, ◌||◌, Some, Result, Ok, Err, map, length, get_or, slice_set, set, take, drop, nat_eq, refl, sym, ap, ap₂, subst, ◌∙◌, arith, append_assoc, inl, inr}
+use Rattle.std.proofs.Common.{◌≡◌, ℕ, zero, suc, ◌<◌, ◌≤◌, ◌+◌, List, [], ◌∷◌, ◌++◌, Bool, true, false, cond, ◌||◌, None, Some, Result, Ok, Err, map, length, get_or, option_map, slice_set, set, take, drop, nat_eq, refl, sym, ap, ap₂, subst, ◌∙◌, arith, append_assoc, inl, inr}
 use Rattle.std.proofs.lemmas.Bool.{cases_Bool, cases_lt, or_parts}
-use Rattle.std.proofs.lemmas.List.{append-nil, take_at}
+use Rattle.std.proofs.lemmas.List.{append-nil, take_at, take_more}
 use Rattle.std.specs.BTreeMap.{BTreeMap, get}
 use Rattle.std.specs.BTreeSet.{BTreeSet, contains}
 use Rattle.std.specs.Cmp.{nat_eq_equiv}
 use Rattle.std.specs.List.{AllByRecursion, IsDistinct, insert, list_any, remove, slice_get}
 use Rattle.std.specs.Ordering.{nat_cmp}
 use Rattle.std.specs.Prelude.{IfOk, OnErr, OnOk}
-use Rattle.ic_laws.proofs.core.Lists.{all_removed}
+use Rattle.ic_laws.proofs.core.Lists.{all_pushed, all_removed}
 use Rattle.ic_laws.specs.CoreBook.{CellPlace}
 use Rattle.ic_laws.specs.declared.memory.OutOfMemory.{OutOfMemory}
 use Rattle.ic_laws.specs.declared.tree.Formula.{Formula}
@@ -27,7 +27,7 @@ use Rattle.ic_sheets.proofs.PartLemmas.{part_same}
 use Rattle.ic_sheets.proofs.PlaceLemmas.{alone, place_middle}
 use Rattle.ic_sheets.proofs.SearchLemmas.{ids}
 use Rattle.ic_sheets.proofs.WriteLemmas.{PlacesCopy}
-use Rattle.ic_sheets.specs.Index.{AreAtIndexes, is_id, is_listed, is_part}
+use Rattle.ic_sheets.specs.Index.{AreAtIndexes, is_id, is_listed, is_part, raised}
 use Rattle.ic_sheets.specs.Search.{index_with_id}
 use Rattle.ic_sheets.specs.Mentioners.{AreAbout, KeepsKnown, KnowsFormula, KnowsPool, KnowsSheets}
 use Rattle.ic_sheets.specs.Sheet.{IsArrayWritten, IsWritten, sheet_of}
@@ -113,6 +113,41 @@ pub begins_copied : (formula : Formula) (s after : Sheet) (r : Result ℕ OutOfM
 begins_copied formula s after (Ok at) h e = begins_placed formula at s.pool.formulas after.pool.formulas h.0
 begins_copied formula s after (Err error) h e = same_begins s after e
 
+-- one more of them is known
+pub known_next : {X : Type 0} (P : X → Type 0) (xs : List X) (at : ℕ) (x : X) → at < length xs → x ≡ get_or xs at x → AllByRecursion P (take at xs) → P x → AllByRecursion P (take (at + 1) xs)
+known_next P xs at x lt read h one = subst (AllByRecursion P) (sym (take_more xs at x lt ∙ ap (λ y. take at xs ++ y ∷ []) (sym read))) (all_pushed P (take at xs) x h one)
+
+pub all_weaker : {X : Type 0} (P Q : X → Type 0) → ((x : X) → P x → Q x) → (xs : List X) → AllByRecursion P xs → AllByRecursion Q xs
+all_weaker P Q weaker [] h = tt
+all_weaker P Q weaker (x ∷ xs) h = (weaker x h.0, all_weaker P Q weaker xs h.1)
+
+pub not_there : {X : Type 0} (xs : List X) (at : ℕ) → slice_get xs at ≡ None → at < length xs → ⊥
+not_there [] at e lt = omega (arith, lt)
+not_there (x ∷ xs) zero e lt = cc
+not_there (x ∷ xs) (suc at) e lt = not_there xs at e (omega (arith, lt))
+
+-- two things that are said of an answer
+pub both_ok : {T E : Type 0} (r : Result T E) (P Q R : T → Type 0) → ((x : T) → P x → Q x → R x) → IfOk r P → IfOk r Q → IfOk r R
+both_ok (Ok x) P Q R both p q = both x p q
+both_ok (Err e) P Q R both p q = tt
+
+-- from one on
+pub known_further : {X : Type 0} (P : X → Type 0) (xs : List X) (from at : ℕ) (x : X) → slice_get xs at ≡ Some x → AllByRecursion P (drop from (take at xs)) → P x → AllByRecursion P (drop from (take (at + 1) xs))
+known_further {X} P xs from at x there h one =
+    let next : at + 1 ≡ suc at = omega arith in
+    subst (λ n. AllByRecursion P (drop from (take n xs))) (sym next) (go from xs at there h)
+  where
+    go : (i : ℕ) (ys : List X) (k : ℕ) → slice_get ys k ≡ Some x → AllByRecursion P (drop i (take k ys)) → AllByRecursion P (drop i (take (suc k) ys))
+    go i [] k e h = cc
+    go zero (y ∷ ys) zero e h = let same : y ≡ x = cc in (subst P (sym same) one, tt)
+    go (suc i) (y ∷ ys) zero e h = nothing i
+      where
+        nothing : (i : ℕ) → AllByRecursion P (drop i (take 0 ys))
+        nothing zero = tt
+        nothing (suc i) = tt
+    go zero (y ∷ ys) (suc k) e h = (h.0, go zero ys k e h.1)
+    go (suc i) (y ∷ ys) (suc k) e h = go i ys k e h
+
 -- ---- formulas become others
 
 all_set : (P : Formula → Type 0) (xs : List Formula) (at : ℕ) (y : Formula) → AllByRecursion P xs → P y → AllByRecursion P (set xs at y)
@@ -163,7 +198,7 @@ module _ (mentioners : Mentioners) (indexes : BTreeMap ℕ ℕ) (topics ns : Lis
         at =
             placed.finds s.id ∙ ap (λ xs. index_with_id s.id xs) e
             ∙ place_middle front back s (alone front back s (subst (λ xs. IsDistinct nat_eq (ids xs)) e differ)) s.id
-            ∙ ap (λ b. cond b (Some (length front)) _) (nat_eq_equiv.refl s.id)
+            ∙ ap (λ b. cond b (Some (length front)) (option_map (raised (length front)) (index_with_id s.id (front ++ back)))) (nat_eq_equiv.refl s.id)
 
     pub known_about : is_part ns (ids sheets) ≡ true → AreAbout topics ns sheets
     known_about ordered = record { ordered = ordered; others = go [] sheets refl known }

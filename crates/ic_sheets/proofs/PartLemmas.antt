@@ -8,7 +8,7 @@ use Rattle.std.specs.BTreeMap.{is_at}
 use Rattle.std.specs.BTreeSet.{BTreeSet, contains}
 use Rattle.std.specs.Cmp.{nat_eq_equiv, ranked}
 use Rattle.std.specs.List.{AllByRecursion, IsDistinct, list_any, slice_get}
-use Rattle.std.specs.Map.{IsStrictlySortedBy}
+use Rattle.std.specs.List.Sorted.{IsStrictlySortedBy}
 use Rattle.std.specs.Ordering.{nat_cmp}
 use Rattle.std.specs.declared.cmp.Ordering.TheVariants.{Less}
 use Rattle.ic_sheets.proofs.DanglingLemmas.{none_apart, or_true}
@@ -27,85 +27,85 @@ part_same (x ∷ xs) = ap (λ b. cond b (is_part xs xs) (is_part (x ∷ xs) xs))
 pub part_known : (xs ys : List ℕ) → is_part xs ys ≡ true → AllByRecursion (λ x. list_any (nat_eq x) ys ≡ true) xs
 part_known [] ys e = tt
 part_known (x ∷ xs) [] e = cc
-part_known (x ∷ xs) (y ∷ ys) e = step (nat_eq x y) refl e
+part_known (x ∷ xs) (y ∷ ys) e = step (nat_eq x y) refl e (part_known xs ys) (part_known (x ∷ xs) ys)
   where
     later : (zs : List ℕ) → AllByRecursion (λ z. list_any (nat_eq z) ys ≡ true) zs → AllByRecursion (λ z. list_any (nat_eq z) (y ∷ ys) ≡ true) zs
     later [] h = tt
     later (z ∷ zs) h = (ap (λ b. nat_eq z y || b) h.0 ∙ or_true (nat_eq z y), later zs h.1)
 
-    step : (b : Bool) → nat_eq x y ≡ b → cond b (is_part xs ys) (is_part (x ∷ xs) ys) ≡ true → AllByRecursion (λ z. list_any (nat_eq z) (y ∷ ys) ≡ true) (x ∷ xs)
-    step true is e = (ap (λ b. b || list_any (nat_eq x) ys) is, later xs (part_known xs ys e))
-    step false is e = later (x ∷ xs) (part_known (x ∷ xs) ys e)
+    step : (b : Bool) → nat_eq x y ≡ b → cond b (is_part xs ys) (is_part (x ∷ xs) ys) ≡ true → (is_part xs ys ≡ true → AllByRecursion (λ z. list_any (nat_eq z) ys ≡ true) xs)
+        → (is_part (x ∷ xs) ys ≡ true → AllByRecursion (λ z. list_any (nat_eq z) ys ≡ true) (x ∷ xs)) → AllByRecursion (λ z. list_any (nat_eq z) (y ∷ ys) ≡ true) (x ∷ xs)
+    step true is e one all = (ap (λ b. b || list_any (nat_eq x) ys) is, later xs (one e))
+    step false is e one all = later (x ∷ xs) (all e)
 
 pub all_part : (P : ℕ → Type 0) (xs ys : List ℕ) → is_part xs ys ≡ true → AllByRecursion P ys → AllByRecursion P xs
 all_part P [] ys e h = tt
 all_part P (x ∷ xs) [] e h = cc
-all_part P (x ∷ xs) (y ∷ ys) e h = step (nat_eq x y) refl e
+all_part P (x ∷ xs) (y ∷ ys) e h = step (nat_eq x y) refl e (λ f. all_part P xs ys f h.1) (λ f. all_part P (x ∷ xs) ys f h.1)
   where
-    step : (b : Bool) → nat_eq x y ≡ b → cond b (is_part xs ys) (is_part (x ∷ xs) ys) ≡ true → AllByRecursion P (x ∷ xs)
-    step true is e = (subst P (sym (eqb-true x y is)) h.0, all_part P xs ys e h.1)
-    step false is e = all_part P (x ∷ xs) ys e h.1
+    step : (b : Bool) → nat_eq x y ≡ b → cond b (is_part xs ys) (is_part (x ∷ xs) ys) ≡ true → (is_part xs ys ≡ true → AllByRecursion P xs) → (is_part (x ∷ xs) ys ≡ true → AllByRecursion P (x ∷ xs)) → AllByRecursion P (x ∷ xs)
+    step true is e one all = (subst P (sym (eqb-true x y is)) h.0, one e)
+    step false is e one all = all e
 
 -- no two of it are equal, if no two of the list are
 pub part_distinct : (xs ys : List ℕ) → is_part xs ys ≡ true → IsDistinct nat_eq ys → IsDistinct nat_eq xs
 part_distinct [] ys e d = none_apart
 part_distinct (x ∷ xs) [] e d = cc
-part_distinct (x ∷ xs) (y ∷ ys) e d = step (nat_eq x y) refl e
+part_distinct (x ∷ xs) (y ∷ ys) e d = step (nat_eq x y) refl e (λ f. part_distinct xs ys f (IsDistinct-tail nat_eq y ys d)) (λ f. part_distinct (x ∷ xs) ys f (IsDistinct-tail nat_eq y ys d))
   where
-    step : (b : Bool) → nat_eq x y ≡ b → cond b (is_part xs ys) (is_part (x ∷ xs) ys) ≡ true → IsDistinct nat_eq (x ∷ xs)
-    step true is e =
+    step : (b : Bool) → nat_eq x y ≡ b → cond b (is_part xs ys) (is_part (x ∷ xs) ys) ≡ true → (is_part xs ys ≡ true → IsDistinct nat_eq xs) → (is_part (x ∷ xs) ys ≡ true → IsDistinct nat_eq (x ∷ xs)) → IsDistinct nat_eq (x ∷ xs)
+    step true is e one all =
         IsDistinct-cons nat_eq x xs (all_part (λ z. nat_eq x z ≡ false) xs ys e (subst (λ k. AllByRecursion (λ z. nat_eq k z ≡ false) ys) (sym (eqb-true x y is)) (IsDistinct-head nat_eq y ys d)))
-        (part_distinct xs ys e (IsDistinct-tail nat_eq y ys d))
-    step false is e = part_distinct (x ∷ xs) ys e (IsDistinct-tail nat_eq y ys d)
+        (one e)
+    step false is e one all = all e
 
 -- of a longer list, too
 part_longer : (xs ys more : List ℕ) → is_part xs ys ≡ true → is_part xs (ys ++ more) ≡ true
 part_longer [] ys more e = refl
 part_longer (x ∷ xs) [] more e = cc
-part_longer (x ∷ xs) (y ∷ ys) more e = step (nat_eq x y) e
+part_longer (x ∷ xs) (y ∷ ys) more e = step (nat_eq x y) e (part_longer xs ys more) (part_longer (x ∷ xs) ys more)
   where
-    step : (b : Bool) → cond b (is_part xs ys) (is_part (x ∷ xs) ys) ≡ true → cond b (is_part xs (ys ++ more)) (is_part (x ∷ xs) (ys ++ more)) ≡ true
-    step true e = part_longer xs ys more e
-    step false e = part_longer (x ∷ xs) ys more e
+    step : (b : Bool) → cond b (is_part xs ys) (is_part (x ∷ xs) ys) ≡ true → (is_part xs ys ≡ true → is_part xs (ys ++ more) ≡ true) → (is_part (x ∷ xs) ys ≡ true → is_part (x ∷ xs) (ys ++ more) ≡ true)
+        → cond b (is_part xs (ys ++ more)) (is_part (x ∷ xs) (ys ++ more)) ≡ true
+    step true e one all = one e
+    step false e one all = all e
 
 part_last : (z : ℕ) (ys : List ℕ) → is_part (z ∷ []) (ys ++ z ∷ []) ≡ true
 part_last z [] = ap (λ b. cond b true false) (nat_eq_equiv.refl z)
-part_last z (y ∷ ys) = step (nat_eq z y)
+part_last z (y ∷ ys) = step (nat_eq z y) (part_last z ys)
   where
-    step : (b : Bool) → cond b true (is_part (z ∷ []) (ys ++ z ∷ [])) ≡ true
-    step true = refl
-    step false = part_last z ys
+    step : (b : Bool) → is_part (z ∷ []) (ys ++ z ∷ []) ≡ true → cond b true (is_part (z ∷ []) (ys ++ z ∷ [])) ≡ true
+    step true rest = refl
+    step false rest = rest
 
 -- one more comes behind both
 part_pushed : (xs ys : List ℕ) (z : ℕ) → is_part xs ys ≡ true → is_part (xs ++ z ∷ []) (ys ++ z ∷ []) ≡ true
 part_pushed [] ys z e = part_last z ys
 part_pushed (x ∷ xs) [] z e = cc
-part_pushed (x ∷ xs) (y ∷ ys) z e = step (nat_eq x y) e
+part_pushed (x ∷ xs) (y ∷ ys) z e = step (nat_eq x y) e (part_pushed xs ys z) (part_pushed (x ∷ xs) ys z)
   where
-    step : (b : Bool) → cond b (is_part xs ys) (is_part (x ∷ xs) ys) ≡ true → cond b (is_part (xs ++ z ∷ []) (ys ++ z ∷ [])) (is_part (x ∷ xs ++ z ∷ []) (ys ++ z ∷ [])) ≡ true
-    step true e = part_pushed xs ys z e
-    step false e = part_pushed (x ∷ xs) ys z e
+    step : (b : Bool) → cond b (is_part xs ys) (is_part (x ∷ xs) ys) ≡ true → (is_part xs ys ≡ true → is_part (xs ++ z ∷ []) (ys ++ z ∷ []) ≡ true) → (is_part (x ∷ xs) ys ≡ true → is_part (x ∷ xs ++ z ∷ []) (ys ++ z ∷ []) ≡ true)
+        → cond b (is_part (xs ++ z ∷ []) (ys ++ z ∷ [])) (is_part (x ∷ xs ++ z ∷ []) (ys ++ z ∷ [])) ≡ true
+    step true e one all = one e
+    step false e one all = all e
 
 take_further : (i k : ℕ) (xs : List ℕ) → i ≤ k → (more : List ℕ) × (take k xs ≡ take i xs ++ more)
-take_further i k [] le = (take k [], refl)
-take_further zero k (x ∷ xs) le = (take k (x ∷ xs), refl)
+take_further zero k xs le = (take k xs, refl)
+take_further (suc i) zero [] le = absurd (omega (arith, le))
+take_further (suc i) (suc k) [] le = ([], refl)
 take_further (suc i) zero (x ∷ xs) le = absurd (omega (arith, le))
 take_further (suc i) (suc k) (x ∷ xs) le = let rest = take_further i k xs (omega (arith, le)) in (rest.0, ap (λ (ys : List ℕ). x ∷ ys) rest.1)
 
 part_further : (xs ys : List ℕ) (i k : ℕ) → i ≤ k → is_part xs (take i ys) ≡ true → is_part xs (take k ys) ≡ true
 part_further xs ys i k le e = let more = take_further i k ys le in ap (is_part xs) more.1 ∙ part_longer xs (take i ys) more.0 e
 
-pub part_whole : (xs ys : List ℕ) (i : ℕ) → is_part xs (take i ys) ≡ true → is_part xs ys ≡ true
-part_whole xs ys i e = let more = rest i ys in ap (is_part xs) more.1 ∙ part_longer xs (take i ys) more.0 e
-  where
-    rest : (i : ℕ) (zs : List ℕ) → (more : List ℕ) × (zs ≡ take i zs ++ more)
-    rest i [] = ([], nil i)
-      where
-        nil : (i : ℕ) → [] ≡ take i [] ++ []
-        nil zero = refl
-        nil (suc i) = refl
-    rest zero (z ∷ zs) = (z ∷ zs, refl)
-    rest (suc i) (z ∷ zs) = let r = rest i zs in (r.0, ap (λ (ys : List ℕ). z ∷ ys) r.1)
+take_rest : (i : ℕ) (xs : List ℕ) → (more : List ℕ) × (xs ≡ take i xs ++ more)
+take_rest zero xs = (xs, refl)
+take_rest (suc i) [] = ([], refl)
+take_rest (suc i) (x ∷ xs) = let rest = take_rest i xs in (rest.0, ap (λ (ys : List ℕ). x ∷ ys) rest.1)
+
+part_whole : (xs ys : List ℕ) (i : ℕ) → is_part xs (take i ys) ≡ true → is_part xs ys ≡ true
+part_whole xs ys i e = let more = take_rest i ys in ap (is_part xs) more.1 ∙ part_longer xs (take i ys) more.0 e
 
 -- ---- gathered at indexes in ascending order
 

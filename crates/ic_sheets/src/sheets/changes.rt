@@ -14,9 +14,9 @@ ghost use Rattle.ic_sheets.specs.Rewriting.{FitOwn, Makes, SparesElsewhere, chan
 ghost use Rattle.ic_sheets.specs.Sheet.{empty_grid, plain_tab};
 ghost use Rattle.ic_sheets.specs.declared.sheet.Sheet.{Sheet as HeldSheet};
 
-use super::Sheets;
 use super::dangling::{dangles, looked_at, settle};
 use super::rewriting::{prepare_own, prepare_remade};
+use super::{Sheets, index_in};
 use ic_laws::{Finder, OutOfMemory};
 use ic_pool::{BookChange, DefinitionAdded, Remaking, Rewrites, SheetGone, SheetNamed};
 use std::collections::BTreeMap;
@@ -289,7 +289,7 @@ impl Sheets {
         ensures { self.new ≡ with_own_rewrites prepared.items self.old }
     {
         while let Some((id, rewrites)) = prepared.pop() {
-            if let Some(index) = self.index_of_id(id) {
+            if let Some(index) = index_in(&self.indexes, id) {
                 self.apply_at(index, rewrites);
             }
         }

@@ -3,6 +3,7 @@ use Rattle.std.specs.List.{IsDistinct}
 use Rattle.ic_laws.specs.CoreStep.{moved}
 use Rattle.ic_sheets.proofs.DanglingLemmas.{dangling_moved}
 use Rattle.ic_sheets.proofs.KeptLemmas.{finds_moved, kept_moved, length_moved, moved_is, taken}
+use Rattle.ic_sheets.proofs.MentionerLemmas.{known_moved}
 use Rattle.ic_sheets.proofs.PlaceLemmas.{moved_follow}
 use Rattle.ic_sheets.proofs.SearchLemmas.{ids}
 use Rattle.ic_sheets.proofs.ShiftLemmas.{whole_back}
@@ -78,6 +79,7 @@ invariant_of-self c =
       subst (AreAtIndexes c.move_indexes.new.indexes) c.deref.ensures.value c.move_indexes.ensures,
       dangling_moved c.self.inside.dangling.items sheets c.args.from one.sheet c.self.invariant.2 c.self.invariant.0.ids_differ lt one.read _ c.args.to put,
       omega (arith, c.self.invariant.3, ap length list, count),
+      known_moved c.self.inside.mentioners sheets _ c.args.from c.args.to one.sheet c.self.invariant.4 lt one.read put,
     )
 
 pub returns-clause-moved : goal.returns-clause-moved

@@ -8,8 +8,8 @@ use Rattle.ic_sheets.specs.declared.sheet.Sheet.{Sheet}
 use Rattle.ic_sheets.proofs.sheets.rewriting.prepare_remade.Goals as goal
 use Rattle.ic_sheets.proofs.sheets.rewriting.prepare_remade.Goals.{in-Some+in_ok-rewrites+in_ok-push, in_default}
 
-pub prepare_remade-rewrites-requires : goal.prepare_remade-rewrites-requires
-prepare_remade-rewrites-requires g c =
+pub prepare_remade-requires : goal.prepare_remade-requires
+prepare_remade-requires g c =
     let rule = g.R.Remaking.made c.args.remaking.now in
     found_all (λ (s : Sheet). AllByRecursion (LeavesUntouched rule (Some s.id)) s.pool.formulas) _ c.args.sheets.now c.in-Some.sheet.now (sym (c.sheet_with.ensures c.requires.placed) ∙ ap (option_map (λ s. s.now)) c.in-Some.is) c.requires.leaves
 
