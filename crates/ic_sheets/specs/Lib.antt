@@ -5,3 +5,4 @@ pub mod Remade
 pub mod Rewriting
 pub mod Search
 pub mod Sheet
+pub mod Spots

@@ -168,7 +168,7 @@ impl Sheets {
         ensures err { OnErr result (self.new ≡ self.old) }
         ensures finds { FindsSheets ids.new self.new }
     {
-        let id = self.list[index].id;
+        let id = self.list[index].as_ref().id;
         let named = SheetNamed {
             id,
             name,
@@ -199,7 +199,7 @@ impl Sheets {
         ensures err { OnErr result (self.new ≡ self.old) }
         ensures finds { FindsSheets ids.new self.new }
     {
-        let sheet = &self.list[index];
+        let sheet = self.list[index].as_ref();
         let name = sheet.name.as_str();
         let gone = SheetGone {
             id: sheet.id,

@@ -3,11 +3,11 @@ ghost use Rattle.std.specs.Prelude.{◌≡◌, ◌<◌, ◌≤◌, ◌&&◌, ℕ
 ghost use Rattle.std.specs.List.{IsDistinct};
 ghost use Rattle.ic_sheets.specs.Index.{AreAtIndexes, AreDangling, AreLookedAt, dangles, dangles_at, dangling_ids, is_id, is_listed};
 
+use super::spots::Spots;
 use super::{index_in, sheet_at};
 use crate::Sheet;
-use ic_laws::OutOfMemory;
+use ic_laws::{Boxed, OutOfMemory};
 use std::alloc::Global;
-use std::collections::BTreeMap;
 
 /// Whether some formula of a sheet mentions something that wasn't found.
 pub fn dangles(sheet: &Sheet) -> bool
@@ -43,13 +43,14 @@ fn take_out(ids: &mut Vec<u32>, id: u32)
 }
 
 /// Makes these the ids of the sheets in which something dangles. It takes no memory.
-pub fn note_dangling(ids: &mut Vec<u32>, sheets: &[Sheet])
+pub fn note_dangling(ids: &mut Vec<u32>, sheets: &[Boxed<Sheet>])
     requires { length sheets.now ≤ vec_capacity ids.old }
     ensures ids { ids.new.items ≡ dangling_ids sheets.now }
     ensures capacity { vec_capacity ids.new ≡ vec_capacity ids.old }
 {
     ids.clear();
     for sheet in sheets {
+        let sheet = sheet.as_ref();
         if dangles(sheet) {
             ids.push_reserved(sheet.id);
         }
@@ -57,7 +58,7 @@ pub fn note_dangling(ids: &mut Vec<u32>, sheets: &[Sheet])
 }
 
 /// Leaves those of the ids alone whose sheet has something that dangles.
-pub fn keep_dangling(ids: &mut Vec<u32>, sheets: &[Sheet], indexes: &BTreeMap<u32, usize>)
+pub fn keep_dangling(ids: &mut Vec<u32>, sheets: &[Boxed<Sheet>], indexes: &Spots)
     requires placed { AreAtIndexes indexes.now sheets.now }
     requires differ { IsDistinct nat_eq (map (λ s. s.id) sheets.now) }
     ensures ids { ids.new.items ≡ filter (λ id. dangles_at id sheets.now) ids.old.items }
@@ -67,7 +68,7 @@ pub fn keep_dangling(ids: &mut Vec<u32>, sheets: &[Sheet], indexes: &BTreeMap<u3
 }
 
 /// Whether something dangles in the sheet with this id.
-fn dangles_with(sheets: &[Sheet], indexes: &BTreeMap<u32, usize>, id: u32) -> bool
+fn dangles_with(sheets: &[Boxed<Sheet>], indexes: &Spots, id: u32) -> bool
     ensures { AreAtIndexes indexes.now sheets.now → IsDistinct nat_eq (map (λ s. s.id) sheets.now)
         → result ≡ dangles_at id sheets.now }
 {
@@ -80,8 +81,8 @@ fn dangles_with(sheets: &[Sheet], indexes: &BTreeMap<u32, usize>, id: u32) -> bo
 /// The ids of the sheets in which something dangles, and this one, where there is a sheet with it.
 pub fn looked_at(
     alloc: Global,
-    sheets: &[Sheet],
-    indexes: &BTreeMap<u32, usize>,
+    sheets: &[Boxed<Sheet>],
+    indexes: &Spots,
     dangling: &[u32],
     id: u32,
 ) -> Result<Vec<u32>, OutOfMemory>
@@ -99,7 +100,7 @@ pub fn looked_at(
 }
 
 /// Whether there is a sheet with this id, and nothing dangles in it.
-fn is_clean_with(sheets: &[Sheet], indexes: &BTreeMap<u32, usize>, id: u32) -> bool
+fn is_clean_with(sheets: &[Boxed<Sheet>], indexes: &Spots, id: u32) -> bool
     requires placed { AreAtIndexes indexes.now sheets.now }
     requires differ { IsDistinct nat_eq (map (λ s. s.id) sheets.now) }
     ensures { result ≡ (is_id id sheets.now && not (dangles_at id sheets.now)) }
@@ -112,8 +113,8 @@ fn is_clean_with(sheets: &[Sheet], indexes: &BTreeMap<u32, usize>, id: u32) -> b
 
 /// The sheet with this id.
 pub fn sheet_with<'s>(
-    sheets: &'s [Sheet],
-    indexes: &BTreeMap<u32, usize>,
+    sheets: &'s [Boxed<Sheet>],
+    indexes: &Spots,
     id: u32,
 ) -> Option<&'s Sheet>
     ensures { AreAtIndexes indexes.now sheets.now

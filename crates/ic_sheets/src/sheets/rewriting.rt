@@ -10,16 +10,16 @@ ghost use Rattle.ic_sheets.specs.Rewriting.{ArePrepared, FitOwn, FitSheets, Prep
 
 use super::dangling::sheet_with;
 use super::index_in;
+use super::spots::Spots;
 use crate::Sheet;
-use ic_laws::OutOfMemory;
+use ic_laws::{Boxed, OutOfMemory};
 use ic_pool::{BookChange, Remaking, Rewrites};
 use std::alloc::Global;
-use std::collections::BTreeMap;
 
 /// What a change does to the formulas of each sheet.
 pub fn prepare<C: BookChange>(
     alloc: Global,
-    sheets: &[Sheet],
+    sheets: &[Boxed<Sheet>],
     change: &C,
 ) -> Result<Vec<Rewrites>, OutOfMemory>
     ensures { IfOk result (λ prepared. ArePrepared (C.change change.now) prepared.items
@@ -27,6 +27,7 @@ pub fn prepare<C: BookChange>(
 {
     let mut prepared = Vec::with_capacity(alloc, sheets.len())?;
     for sheet in sheets {
+        let sheet = sheet.as_ref();
         prepared.push_reserved(sheet.pool.prepare(change, Some(sheet.id))?);
     }
     Ok(prepared)
@@ -35,8 +36,8 @@ pub fn prepare<C: BookChange>(
 /// The same for the sheets with these ids alone, and with each its id.
 pub fn prepare_own<C: BookChange>(
     alloc: Global,
-    sheets: &[Sheet],
-    indexes: &BTreeMap<u32, usize>,
+    sheets: &[Boxed<Sheet>],
+    indexes: &Spots,
     ids: &[u32],
     change: &C,
 ) -> Result<Vec<(u32, Rewrites)>, OutOfMemory>
@@ -59,7 +60,7 @@ pub fn prepare_own<C: BookChange>(
 /// What a rule that makes formulas anew does to those of each sheet, if it leaves each that it doesn't touch.
 pub fn prepare_remade<R: Remaking>(
     alloc: Global,
-    sheets: &[Sheet],
+    sheets: &[Boxed<Sheet>],
     remaking: &R,
 ) -> Result<Vec<Rewrites>, OutOfMemory>
     requires { AllByRecursion (λ s. AllByRecursion (LeavesUntouched (R.made remaking.now)
@@ -68,6 +69,7 @@ pub fn prepare_remade<R: Remaking>(
 {
     let mut prepared = Vec::with_capacity(alloc, sheets.len())?;
     for sheet in sheets {
+        let sheet = sheet.as_ref();
         prepared.push_reserved(sheet.pool.prepare_remade(remaking, Some(sheet.id))?);
     }
     Ok(prepared)
@@ -86,20 +88,20 @@ pub fn change_nothing(prepared: &[Rewrites]) -> bool
 }
 
 /// Does to the formulas of each sheet what was prepared for it, from the last one on. Sheets past the end stay.
-pub fn apply_all(sheets: &mut [Sheet], mut prepared: Vec<Rewrites>)
+pub fn apply_all(sheets: &mut [Boxed<Sheet>], mut prepared: Vec<Rewrites>)
     requires { FitSheets prepared.items sheets.old }
     ensures { sheets.new ≡ with_all_rewrites prepared.items sheets.old }
 {
     while let Some(rewrites) = prepared.pop() {
-        let sheet = &mut sheets[prepared.len()];
+        let sheet = sheets[prepared.len()].as_mut();
         sheet.pool.apply(rewrites);
     }
 }
 
 /// Does to the formulas of each sheet what was prepared for its id, from the last one on. The others stay.
 pub fn apply_own(
-    sheets: &mut [Sheet],
-    indexes: &BTreeMap<u32, usize>,
+    sheets: &mut [Boxed<Sheet>],
+    indexes: &Spots,
     mut prepared: Vec<(u32, Rewrites)>,
 )
     requires placed { AreAtIndexes indexes.now sheets.old }
@@ -109,7 +111,7 @@ pub fn apply_own(
 {
     while let Some((id, rewrites)) = prepared.pop() {
         if let Some(index) = index_in(indexes, id) {
-            let sheet = &mut sheets[index];
+            let sheet = sheets[index].as_mut();
             sheet.pool.apply(rewrites);
         }
     }

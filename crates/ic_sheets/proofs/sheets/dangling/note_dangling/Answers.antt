@@ -2,6 +2,7 @@ use Rattle.std.proofs.Common.{ap, arith, sym, take, vec_capacity, vec_len, Vec, 
 use Rattle.std.proofs.lemmas.List.{take_more}
 use Rattle.ic_sheets.specs.Index.{dangling_ids}
 use Rattle.ic_sheets.specs.declared.sheet.Sheet.{Sheet}
+use Rattle.ic_sheets.proofs.IndexLemmas.{read_boxed}
 use Rattle.ic_sheets.proofs.DanglingLemmas.{noted, passed}
 use Rattle.ic_sheets.proofs.sheets.dangling.note_dangling.Goals as goal
 use Rattle.ic_sheets.proofs.sheets.dangling.note_dangling.Goals.{then-dangles, else-dangles}
@@ -10,9 +11,9 @@ pub loop-sheet-preserved : goal.loop-sheet-preserved
 loop-sheet-preserved c =
     let sheets : List Sheet = c.args.sheets.now in
     let i = c.loop-sheet.sheet-index in
-    let s : Sheet = c.sheet-item.result in
+    let s : Sheet = c.as_ref-sheet.result.now in
     let front : List Sheet = take i sheets in
-    let more = take_more sheets i s c.loop-sheet-test.true ∙ ap (λ (y : Sheet). front ++ y ∷ []) (sym c.sheet-item.is) in
+    let more = take_more sheets i s c.loop-sheet-test.true ∙ ap (λ (y : Sheet). front ++ y ∷ []) (sym (read_boxed c.args.sheets.now c.loop-sheet.sheet-index c.as_ref-sheet.ensures c.sheet-item.is)) in
     let old = c.loop-sheet.invariant in
     elim c.if-dangles.branch [
       | then-dangles w ↦ record {
