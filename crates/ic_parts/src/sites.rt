@@ -13,7 +13,7 @@ use crate::contents::Contents;
 use ic_cells::Cell;
 use ic_definitions::{BodyRewrites, Definition, NewBody};
 use ic_keep::{KeyChange, captured_formula};
-use ic_laws::{NameKey, OutOfMemory};
+use ic_laws::{Boxed, NameKey, OutOfMemory};
 use ic_pool::{Pool, Replacement, Rewrites, copy_key, same_key};
 use ic_sheets::Sheet;
 use std::alloc::Global;
@@ -87,7 +87,7 @@ pub fn sites_of_update(
 fn push_sheets(
     alloc: Global,
     sites: &mut Vec<MentionSite>,
-    sheets: &[Sheet],
+    sheets: &[Boxed<Sheet>],
     formulas: &[Rewrites],
     change: &KeyChange,
 ) -> Result<(), OutOfMemory>
@@ -97,7 +97,7 @@ fn push_sheets(
 {
     for (index, sheet) in sheets.iter().enumerate() {
         if let Some(rewrites) = prepared_at(formulas, index) {
-            push_sheet(alloc, sites, sheet, rewrites, change)?;
+            push_sheet(alloc, sites, sheet.as_ref(), rewrites, change)?;
         }
     }
     Ok(())

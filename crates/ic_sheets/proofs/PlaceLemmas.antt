@@ -1,9 +1,9 @@
 -- Where the sheets stand by their ids, as sheets come, go and move, and that a look-up keeps up with it.
-use Rattle.std.proofs.Common.{◌≡◌, ℕ, suc, ◌<◌, ◌≤◌, ◌+◌, List, [], ◌∷◌, ◌++◌, Bool, true, false, cond, ◌||◌, Option, Some, None, option_map, is_some, map, max, refl, sym, ap, ap₂, subst, ◌∙◌, length, take, drop, get_or, nat_eq, nat_lt, remove, arith}
+use Rattle.std.proofs.Common.{◌≡◌, ℕ, suc, ◌<◌, ◌≤◌, ◌+◌, List, [], ◌∷◌, ◌++◌, Bool, true, false, cond, ◌||◌, Option, Some, None, option_map, is_some, map, max, refl, sym, ap, ap₂, subst, ◌∙◌, length, take, drop, get_or, nat_eq, remove, arith}
 use Rattle.std.specs.Cmp.{nat_eq_equiv}
 use Rattle.std.specs.List.{AllByRecursion, IsDistinct, find, insert, list_any, position, position_from, slice_get}
 use Rattle.std.specs.Option.{option_and_then}
-use Rattle.std.proofs.lemmas.Bool.{eq-eqb, eqb-true, ltb-true, or_parts}
+use Rattle.std.proofs.lemmas.Bool.{eq-eqb, eqb-true, or_parts}
 use Rattle.std.proofs.lemmas.Iterator.Adapters.{position_from-zero}
 use Rattle.std.proofs.lemmas.List.{length-take, take-append-drop}
 use Rattle.std.proofs.lemmas.List.Sorted.{IsPermutation-map, IsPermutation-middle}
@@ -248,7 +248,6 @@ there_le (s ∷ sheets) n e = step (nat_eq s.id n) refl (index_with_id n sheets)
     step true here o rest e = let same : s.id ≡ n = eqb-true s.id n here in omega (arith, same)
     step false other None rest e = cc
     step false other (Some k) rest e = let le = rest refl in omega (arith, le)
-
 
 most_of : (spots : List Spot) (n : ℕ) → ((q : ℕ) → is_some (index_at q spots) ≡ true → q ≤ n) → greatest (map (λ (s : Spot). s.id) spots) ≤ n
 most_of [] n h = omega arith

@@ -1,9 +1,9 @@
 -- The indexes of sheets by their ids: how one is found where the ids rise, and what becomes of all as one comes or goes.
-use Rattle.std.proofs.Common.{◌≡◌, ℕ, zero, suc, ◌+◌, ◌<◌, ◌≤◌, List, [], ◌∷◌, map, max, Bool, true, false, cond, Option, Some, None, option_map, refl, sym, ap, ◌∙◌, length, get_or, nat_eq, nat_lt, arith}
+use Rattle.std.proofs.Common.{◌≡◌, ℕ, zero, suc, ◌+◌, ◌-◌, ◌<◌, ◌≤◌, List, [], ◌∷◌, map, Bool, true, false, cond, Some, None, option_map, refl, sym, ap, ◌∙◌, length, get_or, nat_eq, nat_lt, arith}
 use Rattle.std.proofs.lemmas.List.{get_or_default}
-use Rattle.std.specs.List.{AllWithin, HoldsAt, insert, remove, slice_get}
+use Rattle.std.specs.List.{AllWithin, insert, remove, slice_get}
 use Rattle.std.specs.List.Sorted.{IsNonDecreasingBy}
-use Rattle.std.proofs.lemmas.Bool.{eq-eqb, eqb-true, le-ltb, ltb-false, ltb-true}
+use Rattle.std.proofs.lemmas.Bool.{eq-eqb, eqb-true, ltb-false, ltb-true}
 use Rattle.ic_laws.specs.Greatest.{greatest}
 use Rattle.ic_sheets.specs.Spots.{Rise, index_at, with_indexes}
 use Rattle.ic_sheets.specs.declared.sheets.spots.Spot.{Spot}
@@ -175,3 +175,16 @@ last_greatest (x ∷ spots) least (suc n) s r count last =
     got [] k z e = cc
     got (w ∷ xs) zero z e = let same : w ≡ z = cc in sym same
     got (w ∷ xs) (suc k) z e = got xs k z e
+
+pub greatest_of_last : (spots : List Spot) (s : Spot) → Rise 0 spots → slice_get spots (length spots - 1) ≡ Some s → s.id ≡ greatest (map (λ (x : Spot). x.id) spots)
+greatest_of_last [] s r last = cc
+greatest_of_last (x ∷ spots) s r last = last_greatest (x ∷ spots) 0 (length (x ∷ spots) - 1) s r (omega arith) last
+
+pub greatest_of_none : (spots : List Spot) → slice_get spots (length spots - 1) ≡ None → 0 ≡ greatest (map (λ (x : Spot). x.id) spots)
+greatest_of_none [] none = refl
+greatest_of_none (x ∷ spots) none = absurd (within (x ∷ spots) (length (x ∷ spots) - 1) (omega arith) none)
+  where
+    within : (xs : List Spot) (k : ℕ) → k < length xs → slice_get xs k ≡ None → ⊥
+    within [] k lt none = absurd (omega (arith, lt))
+    within (y ∷ xs) zero lt none = cc
+    within (y ∷ xs) (suc k) lt none = within xs k (omega (arith, lt)) none

@@ -130,6 +130,13 @@ impl Sheets {
         self.list.as_slice()
     }
 
+    /// The sheet at an index, from 0. None exactly past the end.
+    pub fn get(&self, index: usize) -> Option<&Sheet>
+        ensures { option_map (λ s. s.now) result ≡ slice_get self.now index }
+    {
+        sheet_at(&self.list, index)
+    }
+
     /// How many sheets there are.
     pub fn len(&self) -> usize
         ensures { result ≡ length self.now }

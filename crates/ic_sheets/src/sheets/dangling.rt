@@ -112,11 +112,7 @@ fn is_clean_with(sheets: &[Boxed<Sheet>], indexes: &Spots, id: u32) -> bool
 }
 
 /// The sheet with this id.
-pub fn sheet_with<'s>(
-    sheets: &'s [Boxed<Sheet>],
-    indexes: &Spots,
-    id: u32,
-) -> Option<&'s Sheet>
+pub fn sheet_with<'s>(sheets: &'s [Boxed<Sheet>], indexes: &Spots, id: u32) -> Option<&'s Sheet>
     ensures { AreAtIndexes indexes.now sheets.now
         → option_map (λ s. s.now) result ≡ find (λ s. nat_eq s.id id) sheets.now }
 {

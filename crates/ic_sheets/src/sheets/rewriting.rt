@@ -99,11 +99,7 @@ pub fn apply_all(sheets: &mut [Boxed<Sheet>], mut prepared: Vec<Rewrites>)
 }
 
 /// Does to the formulas of each sheet what was prepared for its id, from the last one on. The others stay.
-pub fn apply_own(
-    sheets: &mut [Boxed<Sheet>],
-    indexes: &Spots,
-    mut prepared: Vec<(u32, Rewrites)>,
-)
+pub fn apply_own(sheets: &mut [Boxed<Sheet>], indexes: &Spots, mut prepared: Vec<(u32, Rewrites)>)
     requires placed { AreAtIndexes indexes.now sheets.old }
     requires differ { IsDistinct nat_eq (map (λ s. s.id) sheets.old) }
     requires fits { FitOwn prepared.items sheets.old }

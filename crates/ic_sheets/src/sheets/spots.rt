@@ -117,7 +117,11 @@ fn found(spots: &[Spot], id: u32) -> Option<usize>
     if place == spots.len() {
         return None;
     }
-    if spots[place].id == id { Some(place) } else { None }
+    if spots[place].id == id {
+        Some(place)
+    } else {
+        None
+    }
 }
 
 /// All indexes after this one are lowered by one.

@@ -3,6 +3,7 @@ use Rattle.std.proofs.lemmas.Option.{slice_get_read}
 use Rattle.std.specs.Prelude.{option_map}
 use Rattle.std.specs.List.{slice_get}
 use Rattle.ic_laws.specs.Keeping.{changed_key}
+use Rattle.ic_sheets.proofs.IndexLemmas.{read_boxed}
 use Rattle.ic_parts.proofs.SiteLemmas.{alike_at, sheet_next, sheet_past, sheets_done}
 use Rattle.ic_parts.proofs.sites.push_sheets.Goals as goal
 use Rattle.ic_parts.proofs.sites.push_sheets.Goals.{in-Some+in_ok-push_sheet, in_default}
@@ -10,16 +11,16 @@ use Rattle.ic_parts.proofs.sites.push_sheets.Goals.{in-Some+in_ok-push_sheet, in
 pub push_sheet-requires : goal.push_sheet-requires
 push_sheet-requires c =
     let sheets = c.args.sheets.now in
-    let s = c.index-sheets-index.result in
-    let there : slice_get sheets c.loop-index.index ≡ Some s = slice_get_read sheets _ c.loop-index.index s refl c.loop-index-test.true c.index-sheets-index.is in
+    let s = c.as_ref.result.now in
+    let there : slice_get sheets c.loop-index.index ≡ Some s = slice_get_read sheets _ c.loop-index.index s refl c.loop-index-test.true (read_boxed c.args.sheets.now c.loop-index.index c.as_ref.ensures c.index-sheets-index.is) in
     alike_at c.args.formulas.now sheets c.loop-index.index c.in-Some.rewrites.now s c.requires (sym c.prepared_at.ensures ∙ ap (option_map (λ r. r.now)) c.in-Some.is) there
 
 pub loop-index-preserved : goal.loop-index-preserved
 loop-index-preserved c =
     let sheets = c.args.sheets.now in
     let formulas = c.args.formulas.now in
-    let s = c.index-sheets-index.result in
-    let there : slice_get sheets c.loop-index.index ≡ Some s = slice_get_read sheets _ c.loop-index.index s refl c.loop-index-test.true c.index-sheets-index.is in
+    let s = c.as_ref.result.now in
+    let there : slice_get sheets c.loop-index.index ≡ Some s = slice_get_read sheets _ c.loop-index.index s refl c.loop-index-test.true (read_boxed c.args.sheets.now c.loop-index.index c.as_ref.ensures c.index-sheets-index.is) in
     let keys = changed_key c.args.change.now.old c.args.change.now.new in
     elim c.match-prepared_at.branch [
       | in-Some+in_ok-push_sheet w ↦

@@ -1,4 +1,4 @@
-use Rattle.std.proofs.Common.{◌≡◌, ◌∙◌, ap, ap₂, sym, subst, subst₂, refl, arith, length-append, ◌++◌, ◌∷◌, [], Some, false, true, chars, encode_utf8_all, length, nat_eq, string_bytes}
+use Rattle.std.proofs.Common.{cond, ◌≡◌, ◌∙◌, ap, ap₂, sym, subst, refl, arith, length-append, ◌++◌, ◌∷◌, [], Some, false, true, chars, encode_utf8_all, length, nat_eq, string_bytes}
 use Rattle.std.specs.List.{list_any}
 use Rattle.ic_laws.specs.Name.{agrees, fold}
 use Rattle.ic_sheets.proofs.DanglingLemmas.{dangling_pushed}
@@ -6,7 +6,8 @@ use Rattle.ic_sheets.proofs.IndexLemmas.{put_by_name}
 use Rattle.ic_sheets.proofs.KeptLemmas.{kept_pushed}
 use Rattle.ic_sheets.proofs.PlaceLemmas.{none_placed, placed_pushed}
 use Rattle.ic_sheets.proofs.SearchLemmas.{ids, names}
-use Rattle.ic_sheets.specs.Index.{AreDangling, AreKept}
+use Rattle.ic_sheets.specs.Index.{AreDangling}
+use Rattle.ic_sheets.specs.Spots.{index_at}
 use Rattle.ic_sheets.specs.Sheet.{empty_grid, plain_tab}
 use Rattle.ic_sheets.specs.declared.sheet.Sheet.{Sheet}
 use Rattle.ic_sheets.proofs.KeptLemmas.{finds_pushed}
@@ -15,10 +16,11 @@ use Rattle.ic_sheets.proofs.sheets.Sheets.add_leaving_formulas.Goals as goal
 
 pub put-requires-clause-absent : goal.put-requires-clause-absent
 put-requires-clause-absent c =
-    none_placed c.self.inside.indexes c.self.inside.list.items c.args.id c.self.invariant.1 (ap (λ xs. list_any (nat_eq c.args.id) (ids xs)) c.self.view_is ∙ c.requires.fresh)
+    ap (index_at c.args.id) c.reserve-3.ensures.kept
+    ∙ none_placed c.self.inside.indexes c.self.inside.list.items c.args.id c.self.invariant.1 (ap (λ xs. list_any (nat_eq c.args.id) (ids xs)) c.self.view_is ∙ c.requires.fresh)
 
-pub invariant_of-self : goal.invariant_of-self
-invariant_of-self c =
+pub invariant_of-self-2 : goal.invariant_of-self-2
+invariant_of-self-2 c =
     let sheets = c.self.inside.list.items in
     let s : Sheet = record { id = c.args.id; name = c.in_ok-name.name; pool = record { formulas = []; is_whole = true }; grid = empty_grid; tab = plain_tab } in
     let named = c.in_ok-name.ensures in
@@ -27,7 +29,7 @@ invariant_of-self c =
     let pushed : c.push_reserved.new.self.items ≡ sheets ++ s ∷ [] = c.push_reserved.ensures.items ∙ ap₂ (λ xs (y : Sheet). xs ++ y ∷ []) c.reserve.ensures.items (c.in_ok-sheet.ensures ∙ c.new.ensures) in (
       kept_pushed c.self.inside.greatest c.max-self-inside.result sheets c.push_reserved.new.self.items s c.self.invariant.0 free fresh c.max-self-inside.ensures pushed,
       placed_pushed c.self.inside.indexes c.put.new.self sheets c.push_reserved.new.self.items s c.len-place.result c.self.invariant.1 fresh (c.len-place.ensures ∙ c.reserve.new.self.ok.0 ∙ ap length c.reserve.ensures.items)
-          c.put.ensures pushed,
+          (λ q. c.put.ensures q ∙ ap (λ xs. cond (nat_eq c.args.id q) (Some c.len-place.result) (index_at q xs)) c.reserve-3.ensures.kept) pushed,
       dangling_pushed c.reserve-2.new.self.items sheets c.push_reserved.new.self.items s (subst (λ xs. AreDangling xs sheets) (sym c.reserve-2.ensures.items) c.self.invariant.2) refl pushed,
       omega (arith, ap length pushed, length-append sheets (s ∷ []), c.in_ok-reserve-2.ensures, c.len-place.ensures, c.reserve.new.self.ok.0, ap length c.reserve.ensures.items),
     )

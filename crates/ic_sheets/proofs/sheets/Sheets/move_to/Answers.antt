@@ -1,4 +1,4 @@
-use Rattle.std.proofs.Common.{◌≡◌, ◌<◌, ◌∙◌, ap, sym, subst, arith, length, nat_eq}
+use Rattle.std.proofs.Common.{◌≡◌, ◌<◌, ◌∙◌, ap, sym, subst, arith, length}
 use Rattle.ic_laws.specs.CoreStep.{moved}
 use Rattle.ic_sheets.proofs.DanglingLemmas.{dangling_moved}
 use Rattle.ic_sheets.proofs.KeptLemmas.{finds_moved, kept_moved, length_moved, moved_is, taken}

@@ -1,4 +1,4 @@
-use Rattle.std.proofs.Common.{◌<◌, ◌∙◌, ap, sym, subst, refl, false, arith, vec_capacity, length, nat_eq}
+use Rattle.std.proofs.Common.{◌<◌, ◌∙◌, ap, sym, subst, refl, false, arith, vec_capacity, length}
 use Rattle.std.proofs.lemmas.List.Edits.{length-remove}
 use Rattle.ic_sheets.proofs.IndexLemmas.{read_boxed}
 use Rattle.ic_sheets.proofs.DanglingLemmas.{dangling_removed, listed_at, room_at}

@@ -1,8 +1,6 @@
-use Rattle.std.proofs.Common.{subst, ◌∙◌, ◌<◌, length, rules, arith}
-use Rattle.ic_pool.specs.Rewrites.{FitsPool}
+use Rattle.std.proofs.Common.{refl, sym, ◌∙◌, ◌<◌, length, rules, arith}
 use Rattle.ic_sheets.proofs.IndexLemmas.{read_boxed}
 use Rattle.ic_sheets.proofs.RewritingLemmas.{filled, taken_fits, taken_left, taken_within}
-use Rattle.ic_sheets.specs.declared.sheet.Sheet.{Sheet}
 use Rattle.ic_sheets.proofs.sheets.rewriting.apply_all.Goals as goal
 
 pub offset_bounds-sheets-len : goal.offset_bounds-sheets-len
@@ -17,13 +15,12 @@ bounds-sheets-len c =
 
 pub apply-requires : goal.apply-requires
 apply-requires c =
-    subst (λ (s : Sheet). FitsPool c.in-Some.rewrites s.pool.formulas) (read_boxed c.loop-rewrites.sheets c.len.result c.as_mut-sheet.ensures.value c.index-sheets-len.is)
-    (taken_fits c.loop-rewrites.prepared.items c.pop.new.self.items c.in-Some.rewrites c.loop-rewrites.sheets c.len.result c.in-Some.ensures.items (c.len.ensures ∙ c.pop.new.self.ok.0) c.loop-rewrites.invariant.fits c.as_mut-sheet.result.now
-    (read_boxed c.loop-rewrites.sheets c.len.result c.as_mut-sheet.ensures.value c.index-sheets-len.is))
+    taken_fits c.loop-rewrites.prepared.items c.pop.new.self.items c.in-Some.rewrites c.loop-rewrites.sheets c.len.result c.in-Some.ensures.items (c.len.ensures ∙ c.pop.new.self.ok.0) c.loop-rewrites.invariant.fits c.as_mut-sheet.result.now
+    (read_boxed c.loop-rewrites.sheets c.len.result (c.as_mut-sheet.ensures.value ∙ sym c.index-sheets-len.is) c.index-sheets-len.is)
 
 pub loop-rewrites-preserved : goal.loop-rewrites-preserved
 loop-rewrites-preserved c =
     let both =
     taken_left c.loop-rewrites.prepared.items c.pop.new.self.items c.in-Some.rewrites c.loop-rewrites.sheets c.len.result c.in-Some.ensures.items (c.len.ensures ∙ c.pop.new.self.ok.0) c.loop-rewrites.invariant.fits c.as_mut-sheet.result.now
-    (read_boxed c.loop-rewrites.sheets c.len.result c.as_mut-sheet.ensures.value c.index-sheets-len.is) _ (filled c.in-Some.rewrites c.as_mut-sheet.result.now _ c.apply.new.self (read_boxed c.loop-rewrites.sheets c.len.result c.as_mut-sheet.ensures.value c.index-sheets-len.is) c.apply.ensures.formulas c.apply.ensures.whole) in
+    (read_boxed c.loop-rewrites.sheets c.len.result (c.as_mut-sheet.ensures.value ∙ sym c.index-sheets-len.is) c.index-sheets-len.is) _ (filled c.in-Some.rewrites c.as_mut-sheet.result.now _ c.apply.new.self refl c.apply.ensures.formulas c.apply.ensures.whole) in
     record { left = both.0 ∙ c.loop-rewrites.invariant.left; fits = both.1 }

@@ -1,13 +1,11 @@
-use Rattle.std.proofs.Common.{◌≡◌, ◌<◌, ◌∙◌, Some, None, arith, length, rules, subst, sym}
+use Rattle.std.proofs.Common.{◌≡◌, ◌<◌, ◌∙◌, Some, None, arith, length, refl, rules, subst, sym}
 use Rattle.std.specs.List.{IsDistinct}
 use Rattle.std.specs.Prelude.{nat_eq}
-use Rattle.ic_pool.specs.Rewrites.{FitsPool}
 use Rattle.ic_sheets.proofs.IndexLemmas.{read_boxed}
 use Rattle.ic_sheets.proofs.OwnLemmas.{missed, nothing_left, own_done, own_fits, own_within}
 use Rattle.ic_sheets.proofs.PlaceLemmas.{placed_same}
 use Rattle.ic_sheets.proofs.RewritingLemmas.{filled}
 use Rattle.ic_sheets.specs.Search.{index_with_id}
-use Rattle.ic_sheets.specs.declared.sheet.Sheet.{Sheet}
 use Rattle.ic_sheets.proofs.sheets.rewriting.apply_own.Goals as goal
 
 pub offset_bounds-sheets-index : goal.offset_bounds-sheets-index
@@ -30,8 +28,7 @@ apply-requires c =
     let i = c.loop-id.invariant in
     let at : index_with_id c.in-Some.id c.loop-id.sheets ≡ Some c.in-Some-index_in.index =
     sym ((placed_same c.args.indexes.now c.args.sheets.now c.loop-id.sheets c.requires.placed i.same).finds c.in-Some.id) ∙ sym c.index_in.ensures ∙ c.in-Some-index_in.is in
-    subst (λ (s : Sheet). FitsPool c.in-Some.rewrites s.pool.formulas) (read_boxed c.loop-id.sheets c.in-Some-index_in.index c.as_mut-sheet.ensures.value c.index-sheets-index.is)
-    (own_fits c.loop-id.prepared.items c.pop.new.self.items c.in-Some.id c.in-Some.rewrites c.loop-id.sheets c.in-Some.ensures.items i.fits c.in-Some-index_in.index at c.as_mut-sheet.result.now (read_boxed c.loop-id.sheets c.in-Some-index_in.index c.as_mut-sheet.ensures.value c.index-sheets-index.is))
+    own_fits c.loop-id.prepared.items c.pop.new.self.items c.in-Some.id c.in-Some.rewrites c.loop-id.sheets c.in-Some.ensures.items i.fits c.in-Some-index_in.index at c.as_mut-sheet.result.now (read_boxed c.loop-id.sheets c.in-Some-index_in.index (c.as_mut-sheet.ensures.value ∙ sym c.index-sheets-index.is) c.index-sheets-index.is)
 
 pub loop-id-preserved-in-Some-index_in : goal.loop-id-preserved-in-Some-index_in
 loop-id-preserved-in-Some-index_in c =
@@ -39,8 +36,8 @@ loop-id-preserved-in-Some-index_in c =
     let at : index_with_id c.in-Some.id c.loop-id.sheets ≡ Some c.in-Some-index_in.index =
     sym ((placed_same c.args.indexes.now c.args.sheets.now c.loop-id.sheets c.requires.placed i.same).finds c.in-Some.id) ∙ sym c.index_in.ensures ∙ c.in-Some-index_in.is in
     let all =
-    own_done c.loop-id.prepared.items c.pop.new.self.items c.in-Some.id c.in-Some.rewrites c.loop-id.sheets c.in-Some.ensures.items i.fits c.in-Some-index_in.index at c.as_mut-sheet.result.now (read_boxed c.loop-id.sheets c.in-Some-index_in.index c.as_mut-sheet.ensures.value c.index-sheets-index.is)
-    (subst (IsDistinct nat_eq) (sym i.same) c.requires.differ) _ (filled c.in-Some.rewrites c.as_mut-sheet.result.now _ c.apply.new.self (read_boxed c.loop-id.sheets c.in-Some-index_in.index c.as_mut-sheet.ensures.value c.index-sheets-index.is) c.apply.ensures.formulas c.apply.ensures.whole) in
+    own_done c.loop-id.prepared.items c.pop.new.self.items c.in-Some.id c.in-Some.rewrites c.loop-id.sheets c.in-Some.ensures.items i.fits c.in-Some-index_in.index at c.as_mut-sheet.result.now (read_boxed c.loop-id.sheets c.in-Some-index_in.index (c.as_mut-sheet.ensures.value ∙ sym c.index-sheets-index.is) c.index-sheets-index.is)
+    (subst (IsDistinct nat_eq) (sym i.same) c.requires.differ) _ (filled c.in-Some.rewrites c.as_mut-sheet.result.now _ c.apply.new.self refl c.apply.ensures.formulas c.apply.ensures.whole) in
     record { left = all.0 ∙ i.left; fits = all.1; same = all.2 ∙ i.same }
 
 pub loop-id-preserved : goal.loop-id-preserved

@@ -2,7 +2,7 @@ use Rattle.std.proofs.Common.{◌≡◌, ◌<◌, ◌∙◌, List, ap, length, s
 use Rattle.std.specs.List.{HoldsAt}
 use Rattle.ic_sheets.specs.Spots.{Rise, index_at}
 use Rattle.ic_sheets.specs.declared.sheets.spots.Spot.{Spot}
-use Rattle.ic_sheets.proofs.SpotLemmas.{none_out, out_found, out_rises}
+use Rattle.ic_sheets.proofs.SpotLemmas.{out_found, out_rises}
 use Rattle.ic_sheets.proofs.sheets.spots.Spots.take_out.Goals as goal
 
 pub invariant_of-self : goal.invariant_of-self
