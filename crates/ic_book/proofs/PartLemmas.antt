@@ -75,10 +75,6 @@ module _ (old : ModelState) (valid : IsValidBook old.book) (index : ℕ) {T : Ty
       let same : updated_at (λ s. record s { tab = sheet.tab }) index old.book.sheets ≡ old.book.sheets = updated_same (λ s. record s { tab = sheet.tab }) index old.book.sheets sheet is refl in
       tab_does sheet is sheet.tab (frozen_there index sheet.tab old.book valid sheet is) old (ap (λ (sheets : List Sheet). let m : ModelState = record old { book = record old.book { sheets = sheets } } in m) (sym same)) r h
 
--- no sheet stands past the end
-pub past_end : (index count : ℕ) → false ≡ nat_lt index count → count ≤ index
-past_end index count e = search (rules, arith)
-
 -- the same of a model's sheets ----
 
 module _ (inside : Inside) (h : IsHeld inside) (index : ℕ) where

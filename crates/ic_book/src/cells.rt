@@ -66,7 +66,7 @@ impl<'a> Model<'a> {
         ensures finds { FindsCell sheet row column result self.now }
         ensures valid { IsValidBook self.now.book }
     {
-        match self.contents.sheets.as_slice().get(sheet as usize) {
+        match self.contents.sheets.get(sheet as usize) {
             Some(sheet) => Ok(sheet.grid.cells.get(row, column)),
             None => Err(BookError::InvalidSheet),
         }

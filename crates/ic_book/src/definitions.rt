@@ -236,7 +236,7 @@ impl<'a> Model<'a> {
         match scope {
             None => Some(None),
             Some(index) => {
-                let sheet = self.contents.sheets.as_slice().get(index as usize)?;
+                let sheet = self.contents.sheets.get(index as usize)?;
                 Some(Some(sheet.id))
             }
         }

@@ -159,7 +159,7 @@ impl<'a> Model<'a> {
         // After an error the look-up of this sheet may be there; the others are as before.
         ensures left { OnErr result (LooksUpAsBefore sheet self.old self.new) }
     {
-        let worksheet = &self.contents.sheets.as_slice()[sheet as usize];
+        let worksheet = self.contents.sheets.as_slice()[sheet as usize].as_ref();
         let formula = self.formula_of_text(worksheet.id, row, column, body)?;
         let kind = kind_of(&formula, self.notation.tables());
         let count = self.lists.styles.len();

@@ -38,7 +38,7 @@ impl<'a> Model<'a> {
           InvalidSheet,
         ) ∷ [])) }
     {
-        let Some(worksheet) = self.contents.sheets.as_slice().get(sheet as usize) else {
+        let Some(worksheet) = self.contents.sheets.get(sheet as usize) else {
             return Err(BookError::InvalidSheet);
         };
         Ok(formula_at(worksheet, row, column))
@@ -57,7 +57,7 @@ impl<'a> Model<'a> {
           InvalidSheet,
         ) ∷ [])) }
     {
-        let Some(worksheet) = self.contents.sheets.as_slice().get(sheet as usize) else {
+        let Some(worksheet) = self.contents.sheets.get(sheet as usize) else {
             return Err(BookError::InvalidSheet);
         };
         Ok(formulas_of(self.alloc, worksheet)?)

@@ -79,7 +79,7 @@ impl<'a> Model<'a> {
     fn id_at(&self, sheet: u32) -> Option<u32>
         ensures { result ≡ option_map (λ s. s.id) (slice_get self.now.book.sheets sheet) }
     {
-        let found = self.contents.sheets.as_slice().get(sheet as usize)?;
+        let found = self.contents.sheets.get(sheet as usize)?;
         Some(found.id)
     }
 

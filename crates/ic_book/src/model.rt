@@ -169,7 +169,7 @@ impl<'a> Model<'a> {
         ensures valid { IsValidBook self.now.book }
         ensures notations { AreNotations (notations_in self.now.book) }
     {
-        let worksheet = self.contents.sheets.as_slice().get(sheet as usize)?;
+        let worksheet = self.contents.sheets.get(sheet as usize)?;
         worksheet.pool.get(index)
     }
 

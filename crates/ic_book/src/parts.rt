@@ -16,7 +16,7 @@ impl<'a> Model<'a> {
     pub(crate) fn sheet_at(&self, sheet: u32) -> Result<&Sheet, BookError>
         ensures { FindsSheet sheet result self.now }
     {
-        match self.contents.sheets.as_slice().get(sheet as usize) {
+        match self.contents.sheets.get(sheet as usize) {
             Some(sheet) => Ok(sheet),
             None => Err(BookError::InvalidSheet),
         }
@@ -49,7 +49,7 @@ impl<'a> Model<'a> {
         requires { (tab : Tab) → FnOnceTakesAt F.FnOnce read tab }
         ensures { ReadsTab F.FnOnce read sheet result self.now }
     {
-        let Some(sheet) = self.contents.sheets.as_slice().get(sheet as usize) else {
+        let Some(sheet) = self.contents.sheets.get(sheet as usize) else {
             return Err(BookError::InvalidSheet);
         };
         read(&sheet.tab)
@@ -101,7 +101,7 @@ impl<'a> Model<'a> {
         requires { (grid : Grid) → FnOnceTakesAt F.FnOnce read grid }
         ensures { ReadsGrid F.FnOnce read sheet result self.now }
     {
-        let Some(sheet) = self.contents.sheets.as_slice().get(sheet as usize) else {
+        let Some(sheet) = self.contents.sheets.get(sheet as usize) else {
             return Err(BookError::InvalidSheet);
         };
         read(&sheet.grid)

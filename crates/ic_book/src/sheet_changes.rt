@@ -287,7 +287,7 @@ impl<'a> Model<'a> {
             places: &self.names.names,
         };
         let named = SheetNamed {
-            id: self.contents.sheets.as_slice()[index].id,
+            id: self.contents.sheets.as_slice()[index].as_ref().id,
             name: new_name,
             definitions: &definitions,
         };

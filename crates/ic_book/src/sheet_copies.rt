@@ -72,7 +72,7 @@ impl<'a> Model<'a> {
     {
         // What always holds of a model is known from here on.
         let _ = &self.contents;
-        let source = &self.contents.sheets.as_slice()[index];
+        let source = self.contents.sheets.as_slice()[index].as_ref();
         let name = NumberedName::Copy(source.name.as_str());
         let sheets = &self.contents.sheets;
         free_name(self.alloc, sheets, &self.names.sheets, &name)

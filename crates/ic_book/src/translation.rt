@@ -252,7 +252,7 @@ impl<'a> Model<'a> {
         ensures { IfOk result (λ own. own
             ≡ formula_own self.now.book sheet row column (chars body.now)) }
     {
-        let Some(worksheet) = self.contents.sheets.as_slice().get(sheet as usize) else {
+        let Some(worksheet) = self.contents.sheets.get(sheet as usize) else {
             return Ok(None);
         };
         let formula = self.formula_of_text(worksheet.id, row, column, body)?;

@@ -121,7 +121,7 @@ impl<'a> Model<'a> {
         ensures refused { TellsOnly result (value_refusal self.now.book sheet row column) }
         ensures valid { IsValidBook self.now.book }
     {
-        match self.contents.sheets.as_slice().get(sheet as usize) {
+        match self.contents.sheets.get(sheet as usize) {
             Some(sheet) => style_in(&sheet.grid, row, column),
             None => Err(BookError::InvalidSheet),
         }

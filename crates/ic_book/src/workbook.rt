@@ -8,7 +8,7 @@ ghost use Rattle.ic_workbooks.specs.Workbook.{body_in_english, body_text, define
 use crate::{BookError, Model};
 use ic_cells::{DefinedName, Theme, Workbook, Worksheet};
 use ic_definitions::Definition;
-use ic_laws::{Dialect, Formula, Items, OutOfMemory, Text};
+use ic_laws::{Boxed, Dialect, Formula, Items, OutOfMemory, Text};
 use ic_parts::copies::{
     copy_cells, copy_lines, copy_merges, copy_metadata, copy_styles, copy_text, copy_texts,
 };
@@ -108,13 +108,13 @@ impl<'a> Model<'a> {
     }
 
     /// The records of sheets.
-    fn worksheets(&self, sheets: &[Sheet]) -> Result<Items<Worksheet>, OutOfMemory>
+    fn worksheets(&self, sheets: &[Boxed<Sheet>]) -> Result<Items<Worksheet>, OutOfMemory>
         ensures { IfOk result (λ records. records
             ≡ map (worksheet_of self.now.book) (map sheet_of sheets.now)) }
     {
         let mut out = Vec::new(self.alloc);
         for sheet in sheets {
-            out.push(self.worksheet(sheet)?)?;
+            out.push(self.worksheet(sheet.as_ref())?)?;
         }
         Ok(Items::from(out))
     }

@@ -5,7 +5,7 @@ ghost use Rattle.ic_pool.specs.Mentioning.{AreThosePassing};
 ghost use Rattle.ic_changes.specs.Mentioning.{cells_passing, definition_passing, mentions, sites_passing};
 
 use ic_definitions::{Definition, Definitions};
-use ic_laws::{Formula, NameKey, OutOfMemory};
+use ic_laws::{Boxed, Formula, NameKey, OutOfMemory};
 use ic_parts::MentionSite;
 use ic_parts::contents::Contents;
 use ic_parts::sites::push_cells;
@@ -41,14 +41,14 @@ pub fn sites_in(
 /// Puts the cells of these sheets at the end.
 fn push_sheets(
     sites: &mut Vec<MentionSite>,
-    sheets: &[Sheet],
+    sheets: &[Boxed<Sheet>],
     sought: &Sought<'_>,
 ) -> Result<(), OutOfMemory>
     ensures { OnOk result (sites.new.items
         ≡ sites.old.items ++ flat_map (cells_passing (mentions sought.now)) sheets.now) }
 {
     for sheet in sheets {
-        push_sheet(sites, sheet, sought)?;
+        push_sheet(sites, sheet.as_ref(), sought)?;
     }
     Ok(())
 }

@@ -53,7 +53,7 @@ pub fn copy_sheet(
     ensures err { OnErr result (contents.new ≡ contents.old) }
     ensures indexed { IsIndexed names.new contents.new.sheets contents.new.definitions }
 {
-    let source = contents.sheets.as_slice()[index].id;
+    let source = contents.sheets.as_slice()[index].as_ref().id;
     let named = NamedDefinitions {
         definitions: &contents.definitions,
         places: &names.names,
@@ -164,7 +164,7 @@ fn made_for(
     };
     let both = BothDefinitions::new(named, *copies);
     let after = SceneOver::new(&contents.sheets, &names.sheets, &both);
-    let source = &contents.sheets.as_slice()[index];
+    let source = contents.sheets.as_slice()[index].as_ref();
     let list = copies.definitions.as_slice();
     let bodies = copied_bodies(alloc, &after, english, source.id, id, list)?;
     let filling = filling_of(alloc, &after, english, source, id)?;

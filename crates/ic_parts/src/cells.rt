@@ -9,7 +9,7 @@ ghost use Rattle.ic_grid.specs.Shape.{is_empty, shape_of};
 ghost use Rattle.ic_parts.specs.Cells.{place_in, places_from};
 
 use ic_cells::{Cell, CellIndex, CellType, CellValue};
-use ic_laws::{Items, OutOfMemory, Text};
+use ic_laws::{Boxed, Items, OutOfMemory, Text};
 use ic_sheets::Sheet;
 use ic_tables::Language;
 use std::alloc::Global;
@@ -53,13 +53,13 @@ pub fn is_empty(cell: Option<&Cell>) -> bool
 }
 
 /// The places of all cells of these sheets.
-pub fn all_places(alloc: Global, sheets: &[Sheet]) -> Result<Vec<CellIndex>, OutOfMemory>
+pub fn all_places(alloc: Global, sheets: &[Boxed<Sheet>]) -> Result<Vec<CellIndex>, OutOfMemory>
     requires { length sheets.now ≤ last_id }
     ensures { IfOk result (λ all. all.items ≡ places_from 0 sheets.now) }
 {
     let mut all = Vec::new(alloc);
     for (index, sheet) in sheets.iter().enumerate() {
-        push_places(&mut all, index as u32, sheet.grid.cells.as_map())?;
+        push_places(&mut all, index as u32, sheet.as_ref().grid.cells.as_map())?;
     }
     Ok(all)
 }

@@ -9,7 +9,7 @@ ghost use Rattle.ic_parts.specs.Scene.{named};
 
 use crate::copies::copy_text;
 use ic_cells::Cell;
-use ic_laws::{Formula, OutOfMemory, SheetName};
+use ic_laws::{Boxed, Formula, OutOfMemory, SheetName};
 use ic_pool::Pool;
 use ic_sheets::Sheet;
 use std::alloc::Global;
@@ -76,12 +76,12 @@ fn push_formula<'b>(
 }
 
 /// The ids and names of sheets.
-pub fn names_of(alloc: Global, sheets: &[Sheet]) -> Result<Vec<SheetName>, OutOfMemory>
+pub fn names_of(alloc: Global, sheets: &[Boxed<Sheet>]) -> Result<Vec<SheetName>, OutOfMemory>
     ensures { IfOk result (λ names. names.items ≡ map named sheets.now) }
 {
     let mut names = Vec::new(alloc);
     for sheet in sheets {
-        names.push(name_of(alloc, sheet)?)?;
+        names.push(name_of(alloc, sheet.as_ref())?)?;
     }
     Ok(names)
 }

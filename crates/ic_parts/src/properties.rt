@@ -4,18 +4,21 @@ ghost use Rattle.ic_cells.specs.Sheet.{state_word};
 ghost use Rattle.ic_parts.specs.Fields.{fields_of_sheet, told_sheet};
 
 use ic_cells::{SheetProperties, SheetState};
-use ic_laws::{OutOfMemory, Text};
+use ic_laws::{Boxed, OutOfMemory, Text};
 use ic_sheets::Sheet;
 use std::alloc::Global;
 
 /// What is told of these sheets.
-pub fn properties_of(alloc: Global, sheets: &[Sheet]) -> Result<Vec<SheetProperties>, OutOfMemory>
+pub fn properties_of(
+    alloc: Global,
+    sheets: &[Boxed<Sheet>],
+) -> Result<Vec<SheetProperties>, OutOfMemory>
     ensures { IfOk result
         (λ all. flat_map fields_of_sheet all.items ≡ flat_map told_sheet sheets.now) }
 {
     let mut all = Vec::new(alloc);
     for sheet in sheets {
-        all.push(properties(alloc, sheet)?)?;
+        all.push(properties(alloc, sheet.as_ref())?)?;
     }
     Ok(all)
 }

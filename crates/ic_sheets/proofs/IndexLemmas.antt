@@ -231,3 +231,7 @@ pub put_by_name : (before after : Index) (bytes name : List ℕ) (w : Option ℕ
     → (q : List ℕ) → get_by_text after (encode_utf8_all q) ≡ cond (bytes_eq name q) w (get_by_text before (encode_utf8_all q))
 put_by_name before after bytes name w u e q =
     u (encode_utf8_all q) ∙ ap (λ b. cond b w (get_by_text before (encode_utf8_all q))) (ap (λ x. bytes_eq x (encode_utf8_all q)) e ∙ same_encoded name q)
+
+-- what a box holds that was read at a place
+pub read_boxed : {X : Type 0} (xs : List X) (place : ℕ) {held x : X} → x ≡ held → held ≡ get_or xs place held → x ≡ get_or xs place x
+read_boxed {X} xs place same read = let P : X → Type 0 = λ y. y ≡ get_or xs place y in subst P (sym same) read

@@ -1,7 +1,6 @@
 pub mod ApartLemmas
 pub mod CellLemmas
 pub mod DanglingLemmas
-pub mod FollowLemmas
 pub mod IndexLemmas
 pub mod InsertLemmas
 pub mod KeptLemmas
@@ -18,4 +17,5 @@ pub mod RemadeLemmas
 pub mod RewritingLemmas
 pub mod SearchLemmas
 pub mod ShiftLemmas
+pub mod SpotLemmas
 pub mod WriteLemmas

@@ -2,7 +2,6 @@
 use Rattle.std.proofs.Common.{◌≡◌, ℕ, zero, suc, ◌<◌, ◌≤◌, ◌+◌, List, [], ◌∷◌, ◌++◌, Bool, true, false, cond, ◌||◌, None, Some, Result, Ok, Err, map, length, get_or, option_map, slice_set, set, take, drop, nat_eq, refl, sym, ap, ap₂, subst, ◌∙◌, arith, append_assoc, inl, inr}
 use Rattle.std.proofs.lemmas.Bool.{cases_Bool, cases_lt, or_parts}
 use Rattle.std.proofs.lemmas.List.{append-nil, take_at, take_more}
-use Rattle.std.specs.BTreeMap.{BTreeMap, get}
 use Rattle.std.specs.BTreeSet.{BTreeSet, contains}
 use Rattle.std.specs.Cmp.{nat_eq_equiv}
 use Rattle.std.specs.List.{AllByRecursion, IsDistinct, insert, list_any, remove, slice_get}
@@ -27,8 +26,10 @@ use Rattle.ic_sheets.proofs.PartLemmas.{part_same}
 use Rattle.ic_sheets.proofs.PlaceLemmas.{alone, place_middle}
 use Rattle.ic_sheets.proofs.SearchLemmas.{ids}
 use Rattle.ic_sheets.proofs.WriteLemmas.{PlacesCopy}
-use Rattle.ic_sheets.specs.Index.{AreAtIndexes, is_id, is_listed, is_part, raised}
+use Rattle.ic_sheets.specs.Index.{AreAtIndexes, is_id, is_listed, is_part}
 use Rattle.ic_sheets.specs.Search.{index_with_id}
+use Rattle.ic_sheets.specs.Spots.{index_at, raised}
+use Rattle.ic_sheets.specs.declared.sheets.spots.Spots.{Spots}
 use Rattle.ic_sheets.specs.Mentioners.{AreAbout, KeepsKnown, KnowsFormula, KnowsPool, KnowsSheets}
 use Rattle.ic_sheets.specs.Sheet.{IsArrayWritten, IsWritten, sheet_of}
 use Rattle.ic_sheets.specs.declared.mentioners.Mentioners.{Mentioners}
@@ -179,8 +180,8 @@ none_mentions mentioners topics id (x ∷ xs) has known none = ap₂ (λ a b. a 
     by_test false is = is
     by_test true is = absurd (clash (has_place_of mentioners.index topics id) (some_place mentioners.index id x topics (known.0 has) is) none)
 
-module _ (mentioners : Mentioners) (indexes : BTreeMap ℕ ℕ) (topics ns : List ℕ) (about : BTreeSet ℕ) (sheets : List Sheet) (has : mentioners.has_all ≡ true) (known : KnowsSheets mentioners sheets) (placed : AreAtIndexes indexes sheets) (differ : IsDistinct nat_eq (ids sheets))
-    (found : (id index : ℕ) → has_place_of mentioners.index topics id ≡ true → get nat_cmp indexes id ≡ Some index → contains nat_cmp about index ≡ true)
+module _ (mentioners : Mentioners) (indexes : Spots) (topics ns : List ℕ) (about : BTreeSet ℕ) (sheets : List Sheet) (has : mentioners.has_all ≡ true) (known : KnowsSheets mentioners sheets) (placed : AreAtIndexes indexes sheets) (differ : IsDistinct nat_eq (ids sheets))
+    (found : (id index : ℕ) → has_place_of mentioners.index topics id ≡ true → index_at id indexes.list.items ≡ Some index → contains nat_cmp about index ≡ true)
     (there : (index : ℕ) (s : Sheet) → slice_get sheets index ≡ Some s → contains nat_cmp about index ≡ true → is_listed s.id ns ≡ true)
   where
     got : (front back : List Sheet) (s : Sheet) → slice_get (front ++ s ∷ back) (length front) ≡ Some s
@@ -194,7 +195,7 @@ module _ (mentioners : Mentioners) (indexes : BTreeMap ℕ ℕ) (topics ns : Lis
           | inl somewhere ↦ absurd (clash (is_listed s.id ns) (there (length front) s (ap (λ xs. slice_get xs (length front)) e ∙ got front back s) (found s.id (length front) somewhere at)) none)
         ]
       where
-        at : get nat_cmp indexes s.id ≡ Some (length front)
+        at : index_at s.id indexes.list.items ≡ Some (length front)
         at =
             placed.finds s.id ∙ ap (λ xs. index_with_id s.id xs) e
             ∙ place_middle front back s (alone front back s (subst (λ xs. IsDistinct nat_eq (ids xs)) e differ)) s.id

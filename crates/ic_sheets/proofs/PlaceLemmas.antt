@@ -1,25 +1,22 @@
 -- Where the sheets stand by their ids, as sheets come, go and move, and that a look-up keeps up with it.
-use Rattle.std.proofs.Common.{◌≡◌, ℕ, suc, ◌<◌, ◌+◌, List, [], ◌∷◌, ◌++◌, Bool, true, false, cond, ◌||◌, Option, Some, None, option_map, refl, sym, ap, ap₂, subst, ◌∙◌, length, take, drop, get_or, nat_eq, nat_lt, remove, arith}
-use Rattle.std.specs.BTreeMap.{BTreeMap, IsEmpty, Updates, get}
+use Rattle.std.proofs.Common.{◌≡◌, ℕ, suc, ◌<◌, ◌≤◌, ◌+◌, List, [], ◌∷◌, ◌++◌, Bool, true, false, cond, ◌||◌, Option, Some, None, option_map, is_some, map, max, refl, sym, ap, ap₂, subst, ◌∙◌, length, take, drop, get_or, nat_eq, remove, arith}
 use Rattle.std.specs.Cmp.{nat_eq_equiv}
 use Rattle.std.specs.List.{AllByRecursion, IsDistinct, find, insert, list_any, position, position_from, slice_get}
-use Rattle.std.specs.Map.{lookup}
 use Rattle.std.specs.Option.{option_and_then}
-use Rattle.std.specs.Ordering.{is_eq, nat_cmp}
-use Rattle.std.specs.declared.cmp.Ordering.TheVariants.{Less, Equal, Greater}
-use Rattle.std.proofs.lemmas.Bool.{eq-eqb, eqb-true, ltb-true, or_parts}
+use Rattle.std.proofs.lemmas.Bool.{eq-eqb, eqb-true, or_parts}
 use Rattle.std.proofs.lemmas.Iterator.Adapters.{position_from-zero}
 use Rattle.std.proofs.lemmas.List.{length-take, take-append-drop}
 use Rattle.std.proofs.lemmas.List.Sorted.{IsPermutation-map, IsPermutation-middle}
 use Rattle.std.proofs.lemmas.Map.Keys.{IsDistinct-IsPermutation, IsDistinct-head}
-use Rattle.ic_sheets.specs.Index.{AreAtIndexes, Follow, lowered, moved_index, raised}
+use Rattle.ic_laws.specs.Greatest.{greatest}
+use Rattle.ic_sheets.specs.Index.{AreAtIndexes}
 use Rattle.ic_sheets.specs.Search.{index_with_id}
+use Rattle.ic_sheets.specs.Spots.{index_at, lowered, moved_index, raised}
 use Rattle.ic_sheets.specs.declared.sheet.Sheet.{Sheet}
+use Rattle.ic_sheets.specs.declared.sheets.spots.Spot.{Spot}
+use Rattle.ic_sheets.specs.declared.sheets.spots.Spots.{Spots}
 use Rattle.ic_sheets.proofs.IndexLemmas.{clash, split_at}
 use Rattle.ic_sheets.proofs.SearchLemmas.{ids}
-
-abbrev pub Places : Type 0
-Places = BTreeMap ℕ ℕ
 
 -- ---- the plain search
 
@@ -66,11 +63,8 @@ same_number k q = step (nat_lt k q) refl (nat_eq k q) refl
     step false lt true e = refl
     step false lt false e = refl
 
-pub updated : (before after : Places) (key : ℕ) (w : Option ℕ) → Updates nat_cmp before after key w → (q : ℕ) → get nat_cmp after q ≡ cond (nat_eq key q) w (get nat_cmp before q)
-updated before after key w u q = u.0 q ∙ ap (λ b. cond b w (get nat_cmp before q)) (same_number key q)
-
-pub placed_empty : (indexes : Places) (sheets : List Sheet) → IsEmpty indexes → sheets ≡ [] → AreAtIndexes indexes sheets
-placed_empty indexes sheets empty none = subst (AreAtIndexes indexes) (sym none) (record { finds = λ id. ap (lookup _) empty })
+pub placed_empty : (indexes : Spots) (sheets : List Sheet) → indexes.list.items ≡ [] → sheets ≡ [] → AreAtIndexes indexes sheets
+placed_empty indexes sheets empty none = subst (AreAtIndexes indexes) (sym none) (record { finds = λ id. ap (index_at id) empty })
 
 -- other formulas and names
 same_place : (xs ys : List Sheet) → ids xs ≡ ids ys → (id : ℕ) → index_with_id id xs ≡ index_with_id id ys
@@ -82,7 +76,7 @@ same_place (x ∷ xs) (y ∷ ys) e id =
     let others : ids xs ≡ ids ys = cc in
     ap₂ (λ k place. cond (nat_eq k id) (Some 0) (option_map suc place)) first (same_place xs ys others id)
 
-pub placed_same : (indexes : Places) (sheets list : List Sheet) → AreAtIndexes indexes sheets → ids list ≡ ids sheets → AreAtIndexes indexes list
+pub placed_same : (indexes : Spots) (sheets list : List Sheet) → AreAtIndexes indexes sheets → ids list ≡ ids sheets → AreAtIndexes indexes list
 placed_same indexes sheets list placed same = record { finds = λ id. placed.finds id ∙ sym (same_place list sheets same id) }
 
 -- ---- a sheet comes
@@ -107,28 +101,15 @@ place_pushed s (x ∷ sheets) free q =
     ∙ either_first (nat_eq x.id q) (nat_eq s.id q) (length sheets) (index_with_id q sheets)
     (λ t u. clash (nat_eq s.id x.id) (eq-eqb s.id x.id (eqb-true s.id q u ∙ sym (eqb-true x.id q t))) parts.0)
 
-pub placed_pushed : (before after : Places) (sheets list : List Sheet) (s : Sheet) (at : ℕ) → AreAtIndexes before sheets → list_any (nat_eq s.id) (ids sheets) ≡ false → at ≡ length sheets → Updates nat_cmp before after s.id (Some at) → list ≡ sheets ++ s ∷ [] → AreAtIndexes after list
-placed_pushed before after sheets list s at placed fresh end u pushed =
+pub placed_pushed : (before after : Spots) (sheets list : List Sheet) (s : Sheet) (at : ℕ) → AreAtIndexes before sheets → list_any (nat_eq s.id) (ids sheets) ≡ false → at ≡ length sheets
+    → ((q : ℕ) → index_at q after.list.items ≡ cond (nat_eq s.id q) (Some at) (index_at q before.list.items)) → list ≡ sheets ++ s ∷ [] → AreAtIndexes after list
+placed_pushed before after sheets list s at placed fresh end put pushed =
     subst (AreAtIndexes after) (sym pushed)
-    (record {
-      finds = λ q.
-          updated before after s.id (Some at) u q ∙ ap₂ (λ n o. cond (nat_eq s.id q) (Some n) o) end (placed.finds q)
-          ∙ sym (place_pushed s sheets fresh q);
-    })
+    (record { finds = λ q. put q ∙ ap₂ (λ n o. cond (nat_eq s.id q) (Some n) o) end (placed.finds q) ∙ sym (place_pushed s sheets fresh q) })
 
--- a place that was put in, and taken out again
-pub placed_undone : (before between after : Places) (sheets list : List Sheet) (id : ℕ) (at : Option ℕ) → AreAtIndexes before sheets → list_any (nat_eq id) (ids sheets) ≡ false → Updates nat_cmp before between id at → Updates nat_cmp between after id None → list ≡ sheets → AreAtIndexes after list
-placed_undone before between after sheets list id at placed fresh u v same =
-    subst (AreAtIndexes after) (sym same)
-    (record {
-      finds = λ q.
-          updated between after id None v q ∙ ap (cond (nat_eq id q) None) (updated before between id at u q ∙ ap (cond (nat_eq id q) at) (placed.finds q))
-          ∙ step q (nat_eq id q) refl;
-    })
-  where
-    step : (q : ℕ) (b : Bool) → nat_eq id q ≡ b → cond b None (cond b at (index_with_id q sheets)) ≡ index_with_id q sheets
-    step q true e = sym (ap (λ k. index_with_id k sheets) (sym (eqb-true id q e)) ∙ no_place id sheets fresh)
-    step q false e = refl
+-- its id has no index before
+pub none_placed : (indexes : Spots) (sheets : List Sheet) (id : ℕ) → AreAtIndexes indexes sheets → list_any (nat_eq id) (ids sheets) ≡ false → index_at id indexes.list.items ≡ None
+none_placed indexes sheets id placed fresh = placed.finds id ∙ no_place id sheets fresh
 
 -- ---- a sheet among others
 
@@ -220,24 +201,85 @@ module _ (sheets : List Sheet) (at : ℕ) (s : Sheet) (differ : IsDistinct nat_e
   left q false e None f = refl
   left q false e (Some k) f = ap (λ n. Some n) (back_again at k)
 
-  pub lowered_follow : (before between : Places) (list : List Sheet) → AreAtIndexes before sheets → list ≡ remove sheets at → Updates nat_cmp before between s.id None → Follow (lowered at) between list
-  lowered_follow before between list placed removed u q =
-      ap (option_map (lowered at)) (updated before between s.id None u q ∙ ap (cond (nat_eq s.id q) None) (placed.finds q ∙ there q)) ∙ left q (nat_eq s.id q) refl (index_with_id q (front ++ back)) refl
-      ∙ sym (ap (index_with_id q) removed)
+  pub placed_lowered : (before between after : Spots) (list : List Sheet) → AreAtIndexes before sheets → list ≡ remove sheets at
+      → ((q : ℕ) → index_at q between.list.items ≡ cond (nat_eq s.id q) None (index_at q before.list.items))
+      → ((q : ℕ) → index_at q after.list.items ≡ option_map (lowered at) (index_at q between.list.items)) → AreAtIndexes after list
+  placed_lowered before between after list placed removed out lower = record {
+    finds = λ q.
+        lower q ∙ ap (option_map (lowered at)) (out q ∙ ap (cond (nat_eq s.id q) None) (placed.finds q ∙ there q)) ∙ left q (nat_eq s.id q) refl (index_with_id q (front ++ back)) refl
+        ∙ sym (ap (index_with_id q) removed);
+  }
 
   follows : (to : ℕ) (b : Bool) (o : Option ℕ) → option_map (moved_index at to) (cond b (Some at) (option_map (raised at) o)) ≡ cond b (Some to) (option_map (raised to) o)
   follows to true o = ap (λ n. Some n) (goes_there at to)
   follows to false None = refl
   follows to false (Some k) = ap (λ n. Some n) (others_follow at to k)
 
-  pub moved_follow : (before : Places) (list : List Sheet) (to : ℕ) → AreAtIndexes before sheets → to < length sheets → list ≡ insert (remove sheets at) to s → Follow (moved_index at to) before list
-  moved_follow before list to placed within put q =
+  pub placed_moved : (before after : Spots) (list : List Sheet) (to : ℕ) → AreAtIndexes before sheets → to < length sheets → list ≡ insert (remove sheets at) to s
+      → ((q : ℕ) → index_at q after.list.items ≡ option_map (moved_index at to) (index_at q before.list.items)) → AreAtIndexes after list
+  placed_moved before after list to placed within put follow =
       let first : List Sheet = take to (front ++ back) in
       let rest : List Sheet = drop to (front ++ back) in
       let same : first ++ rest ≡ front ++ back = take-append-drop to (front ++ back) in
       let free_too : list_any (nat_eq s.id) (ids (first ++ rest)) ≡ false = ap (λ xs. list_any (nat_eq s.id) (ids xs)) same ∙ free in
       let all : length sheets ≡ suc (length (front ++ back)) = ap length parts ∙ longer s front back in
       let counted_too : length first ≡ to = omega (arith, length-take to (front ++ back), all) in
-      ap (option_map (moved_index at to)) (placed.finds q ∙ there q) ∙ follows to (nat_eq s.id q) (index_with_id q (front ++ back))
-      ∙ sym (place_middle first rest s free_too q ∙ ap₂ (λ n xs. cond (nat_eq s.id q) (Some n) (option_map (raised n) (index_with_id q xs))) counted_too same)
-      ∙ sym (ap (index_with_id q) put)
+      record {
+        finds = λ q.
+            follow q ∙ ap (option_map (moved_index at to)) (placed.finds q ∙ there q) ∙ follows to (nat_eq s.id q) (index_with_id q (front ++ back))
+            ∙ sym (place_middle first rest s free_too q ∙ ap₂ (λ n xs. cond (nat_eq s.id q) (Some n) (option_map (raised n) (index_with_id q xs))) counted_too same)
+            ∙ sym (ap (index_with_id q) put);
+      }
+
+-- ---- the greatest id
+
+most_le : (sheets : List Sheet) (n : ℕ) → ((q : ℕ) → is_some (index_with_id q sheets) ≡ true → q ≤ n) → greatest (ids sheets) ≤ n
+most_le [] n h = omega arith
+most_le (s ∷ sheets) n h =
+    let first : s.id ≤ n = h s.id (here (nat_eq s.id s.id) (eq-eqb s.id s.id refl)) in
+    let rest : greatest (ids sheets) ≤ n = most_le sheets n (λ q e. h q (later (nat_eq s.id q) (index_with_id q sheets) e)) in
+    omega (arith, first, rest)
+  where
+    here : (b : Bool) → b ≡ true → is_some (cond b (Some 0) (option_map suc (index_with_id s.id sheets))) ≡ true
+    here true e = refl
+    here false e = cc
+
+    later : (b : Bool) (o : Option ℕ) → is_some o ≡ true → is_some (cond b (Some 0) (option_map suc o)) ≡ true
+    later true o e = refl
+    later false None e = cc
+    later false (Some k) e = refl
+
+there_le : (sheets : List Sheet) (n : ℕ) → is_some (index_with_id n sheets) ≡ true → n ≤ greatest (ids sheets)
+there_le [] n e = cc
+there_le (s ∷ sheets) n e = step (nat_eq s.id n) refl (index_with_id n sheets) (there_le sheets n) e
+  where
+    step : (b : Bool) → nat_eq s.id n ≡ b → (o : Option ℕ) → (is_some o ≡ true → n ≤ greatest (ids sheets)) → is_some (cond b (Some 0) (option_map suc o)) ≡ true → n ≤ max s.id (greatest (ids sheets))
+    step true here o rest e = let same : s.id ≡ n = eqb-true s.id n here in omega (arith, same)
+    step false other None rest e = cc
+    step false other (Some k) rest e = let le = rest refl in omega (arith, le)
+
+most_of : (spots : List Spot) (n : ℕ) → ((q : ℕ) → is_some (index_at q spots) ≡ true → q ≤ n) → greatest (map (λ (s : Spot). s.id) spots) ≤ n
+most_of [] n h = omega arith
+most_of (s ∷ spots) n h =
+    let first : s.id ≤ n = h s.id (ap is_some (ap (λ b. cond b (Some s.index) (index_at s.id spots)) (eq-eqb s.id s.id refl))) in
+    let rest = most_of spots n (λ q e. h q (later (nat_eq s.id q) (index_at q spots) e)) in
+    omega (arith, first, rest)
+  where
+    later : (b : Bool) (o : Option ℕ) → is_some o ≡ true → is_some (cond b (Some s.index) o) ≡ true
+    later true o e = refl
+    later false o e = e
+
+there_of : (spots : List Spot) (n : ℕ) → is_some (index_at n spots) ≡ true → n ≤ greatest (map (λ (s : Spot). s.id) spots)
+there_of [] n e = cc
+there_of (s ∷ spots) n e = step (nat_eq s.id n) refl (there_of spots n) e
+  where
+    step : (b : Bool) → nat_eq s.id n ≡ b → (is_some (index_at n spots) ≡ true → n ≤ greatest (map (λ (x : Spot). x.id) spots)) → is_some (cond b (Some s.index) (index_at n spots)) ≡ true → n ≤ max s.id (greatest (map (λ (x : Spot). x.id) spots))
+    step true here rest e = let same : s.id ≡ n = eqb-true s.id n here in omega (arith, same)
+    step false other rest e = let le = rest e in omega (arith, le)
+
+-- the look-up has the greatest id of the sheets
+pub greatest_same : (indexes : Spots) (sheets : List Sheet) → AreAtIndexes indexes sheets → greatest (map (λ (s : Spot). s.id) indexes.list.items) ≡ greatest (ids sheets)
+greatest_same indexes sheets placed =
+    let le = most_of indexes.list.items (greatest (ids sheets)) (λ q e. there_le sheets q (ap is_some (sym (placed.finds q)) ∙ e)) in
+    let most = most_le sheets (greatest (map (λ (s : Spot). s.id) indexes.list.items)) (λ q e. there_of indexes.list.items q (ap is_some (placed.finds q) ∙ e)) in
+    omega (arith, le, most)

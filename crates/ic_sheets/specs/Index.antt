@@ -1,15 +1,16 @@
 -- What the sheets of a book keep beside them, and when it is true of them.
-use Rattle.std.specs.Prelude.{◌≡◌, ℕ, ◌+◌, ◌-◌, List, [], ◌∷◌, Bool, true, false, ◌&&◌, ◌||◌, not, Option, Some, None, bytes_eq, is_some, length, map, nat_eq, nat_lt, option_map, encode_utf8_all, String, if◌then◌else◌}
-use Rattle.std.specs.BTreeMap.{BTreeMap, get, get_by_text}
+use Rattle.std.specs.Prelude.{◌≡◌, ℕ, List, [], ◌∷◌, Bool, true, false, ◌&&◌, ◌||◌, Option, Some, None, bytes_eq, length, map, nat_eq, nat_lt, encode_utf8_all, String, if◌then◌else◌}
+use Rattle.std.specs.BTreeMap.{BTreeMap, get_by_text}
 use Rattle.std.specs.List.{IsDistinct, list_any}
-use Rattle.std.specs.Ordering.{nat_cmp}
 use Rattle.std.specs.declared.alloc.Global.{Global}
 use Rattle.ic_laws.specs.Greatest.{greatest}
 use Rattle.ic_laws.specs.Name.{agrees, fold}
 use Rattle.ic_laws.specs.Scene.{same_scope}
 use Rattle.ic_pool.specs.Pool.{dangling_places}
 use Rattle.ic_sheets.specs.Search.{id_of, index_with_id}
+use Rattle.ic_sheets.specs.Spots.{index_at}
 use Rattle.ic_sheets.specs.declared.sheet.Sheet.{Sheet}
+use Rattle.ic_sheets.specs.declared.sheets.spots.Spots.{Spots}
 
 -- at each key a look-up of ids has that of the first sheet whose folded name is that key, and nothing at any other
 abbrev pub FindsSheets : BTreeMap (String Global) ℕ → List Sheet → Type 0
@@ -20,8 +21,8 @@ abbrev pub StillFinds : List Sheet → List Sheet → Type 0
 StillFinds before after = (ids : BTreeMap (String Global) ℕ) → FindsSheets ids before → FindsSheets ids after
 
 -- at each id the look-up has the index of the sheet with that id
-pub record AreAtIndexes (indexes : BTreeMap ℕ ℕ) (sheets : List Sheet) : Type 0 where
-  pub finds : (id : ℕ) → get nat_cmp indexes id ≡ index_with_id id sheets
+pub record AreAtIndexes (indexes : Spots) (sheets : List Sheet) : Type 0 where
+  pub finds : (id : ℕ) → index_at id indexes.list.items ≡ index_with_id id sheets
 
 -- what was found, unless it is this id
 abbrev pub other_than : ℕ → Option ℕ → Option ℕ
@@ -35,32 +36,6 @@ IsFoundBy name id ids = (key : List ℕ) → other_than id (get_by_text ids (enc
 -- it loses the key of this name, and nothing else
 abbrev pub LosesName : List ℕ → BTreeMap (String Global) ℕ → BTreeMap (String Global) ℕ → Type 0
 LosesName name before after = (key : List ℕ) → get_by_text after (encode_utf8_all key) ≡ (if bytes_eq (fold name) key then None else get_by_text before (encode_utf8_all key))
-
--- an index, lowered by one where it is past this one
-abbrev pub lowered : ℕ → ℕ → ℕ
-lowered index place = if nat_lt index place then place - 1 else place
-
--- an index, raised by one unless it is before this one
-abbrev pub raised : ℕ → ℕ → ℕ
-raised index place = if nat_lt place index then place else place + 1
-
--- where the sheet at an index stands after the one at the first index was put to the second
-abbrev pub moved_index : ℕ → ℕ → ℕ → ℕ
-moved_index from to place = if nat_eq place from then to else raised to (lowered from place)
-
--- by this move of each index the look-up comes to have those of the sheets
-abbrev pub Follow : (ℕ → ℕ) → BTreeMap ℕ ℕ → List Sheet → Type 0
-Follow move indexes sheets = (id : ℕ) → option_map move (get nat_cmp indexes id) ≡ index_with_id id sheets
-
--- it is no index from the first of these up to the second
-abbrev pub is_outside : ℕ → ℕ → Option ℕ → Bool
-is_outside from to None = true
-is_outside from to (Some place) = nat_lt place from || not (nat_lt place to)
-
--- The look-up has the index of each sheet but those from one index up to another, at whose ids it has some index.
-pub record AreAtOthers (from to : ℕ) (indexes : BTreeMap ℕ ℕ) (sheets : List Sheet) : Type 0 where
-  pub finds : (id : ℕ) → is_outside from to (index_with_id id sheets) ≡ true → get nat_cmp indexes id ≡ index_with_id id sheets
-  pub known : (id : ℕ) → is_some (index_with_id id sheets) ≡ true → is_some (get nat_cmp indexes id) ≡ true
 
 -- some formula of a sheet mentions something that wasn't found
 abbrev pub dangles : Sheet → Bool

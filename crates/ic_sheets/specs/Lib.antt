@@ -6,3 +6,4 @@ pub mod Remade
 pub mod Rewriting
 pub mod Search
 pub mod Sheet
+pub mod Spots

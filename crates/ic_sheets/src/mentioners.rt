@@ -6,7 +6,7 @@ ghost use Rattle.ic_pool.specs.MentionPlaces.{places_with};
 ghost use Rattle.ic_sheets.specs.Mentioners.{KeepsKnown, KnowsFormula, KnowsPool, KnowsSheets};
 
 use crate::Sheet;
-use ic_laws::Formula;
+use ic_laws::{Boxed, Formula};
 use ic_pool::{MentionIndex, Pool, Replacement};
 use std::alloc::Global;
 
@@ -42,11 +42,12 @@ impl Mentioners {
     }
 
     /// Of these sheets.
-    fn of(alloc: Global, sheets: &[Sheet]) -> Mentioners
+    fn of(alloc: Global, sheets: &[Boxed<Sheet>]) -> Mentioners
         ensures { KnowsSheets result sheets.now }
     {
         let mut mentioners = Mentioners::new(alloc);
         for sheet in sheets {
+            let sheet = sheet.as_ref();
             mentioners.note_from(sheet.id, &sheet.pool, 0);
         }
         mentioners
@@ -110,7 +111,7 @@ impl Mentioners {
     }
 
     /// Is made anew of these sheets, where it lacks something or may have much too much.
-    pub fn renew(&mut self, sheets: &[Sheet])
+    pub fn renew(&mut self, sheets: &[Boxed<Sheet>])
         ensures { KnowsSheets self.old sheets.now → KnowsSheets self.new sheets.now }
     {
         if !self.has_all || self.index.is_stale() {

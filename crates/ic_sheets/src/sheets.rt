@@ -1,10 +1,9 @@
 ghost use Rattle.std.specs.Prelude.{◌≡◌, List, [], chars, encode_utf8_all, find, length, map, nat_eq, option_map, position, remove, slice_get, string_bytes, IfOk};
-ghost use Rattle.std.specs.BTreeMap.{get};
 ghost use Rattle.std.specs.List.{IsDistinct, list_any};
-ghost use Rattle.std.specs.Ordering.{nat_cmp};
 ghost use Rattle.ic_laws.specs.Greatest.{greatest};
 ghost use Rattle.ic_laws.specs.Name.{agrees, fold};
 ghost use Rattle.ic_sheets.specs.Index.{AreAtIndexes, FindsSheets};
+ghost use Rattle.ic_sheets.specs.Spots.{index_at};
 ghost use Rattle.ic_sheets.specs.declared.sheet.Sheet.{Sheet};
 
 mod changes;
@@ -15,13 +14,15 @@ mod grids;
 mod mentioning;
 mod numbers;
 mod rewriting;
+mod spots;
 mod tabs;
 
 use crate::Sheet;
 use crate::mentioners::Mentioners;
 use caseless::default_case_fold_str;
-use ic_laws::{OutOfMemory, agree};
+use ic_laws::{Boxed, OutOfMemory, agree};
 pub use numbers::is_marked;
+use spots::Spots;
 use std::alloc::Global;
 use std::collections::BTreeMap;
 use std::marker::Model;
@@ -30,9 +31,10 @@ use std::marker::Model;
 /// folded names is the caller's: a call that asks for a name is lent it, and one that changes names changes it, too.
 pub struct Sheets {
     alloc: Global,
-    list: Vec<Sheet>,
+    /// Each in a box, so that few bytes of it move as it comes to stand elsewhere.
+    list: Vec<Boxed<Sheet>>,
     /// The index of each sheet, from 0, by its id.
-    indexes: BTreeMap<u32, usize>,
+    indexes: Spots,
     /// The greatest id of a sheet, 0 where there is none.
     greatest: u32,
     /// The ids of the sheets in which something dangles, each once, with room for those of all sheets.
@@ -88,28 +90,29 @@ fn folded(alloc: Global, name: &str) -> Result<String, OutOfMemory>
 }
 
 /// The id of the first sheet whose name agrees with this one.
-fn first_named(sheets: &[Sheet], name: &str) -> Option<u32>
+fn first_named(sheets: &[Boxed<Sheet>], name: &str) -> Option<u32>
     ensures { result ≡ option_map (λ s. s.id)
         (find (λ s. agrees s.name (chars name.now)) sheets.now) }
 {
     let sheet = sheets
         .iter()
-        .find(|sheet| agree(sheet.name.as_str(), name))?;
-    Some(sheet.id)
+        .find(|sheet| agree(sheet.as_ref().name.as_str(), name))?;
+    Some(sheet.as_ref().id)
 }
 
 /// What a look-up of indexes has at an id.
-fn index_in(indexes: &BTreeMap<u32, usize>, id: u32) -> Option<usize>
-    ensures { result ≡ get nat_cmp indexes.now id }
+fn index_in(indexes: &Spots, id: u32) -> Option<usize>
+    ensures { result ≡ index_at id indexes.now.list.items }
 {
-    indexes.get(&id).copied()
+    indexes.index_of(id)
 }
 
 /// The sheet at an index, from 0. None past the end.
-fn sheet_at(sheets: &[Sheet], index: usize) -> Option<&Sheet>
+fn sheet_at(sheets: &[Boxed<Sheet>], index: usize) -> Option<&Sheet>
     ensures { option_map (λ s. s.now) result ≡ slice_get sheets.now index }
 {
-    sheets.get(index)
+    let sheet = sheets.get(index)?;
+    Some(sheet.as_ref())
 }
 
 impl Sheets {
@@ -120,7 +123,7 @@ impl Sheets {
         Sheets {
             alloc,
             list: Vec::new(alloc),
-            indexes: BTreeMap::new(alloc),
+            indexes: Spots::new(alloc),
             greatest: 0,
             dangling: Vec::new(alloc),
             mentioners: Mentioners::new(alloc),
@@ -128,12 +131,19 @@ impl Sheets {
     }
 
     /// The sheets in their order.
-    pub fn as_slice(&self) -> &[Sheet]
+    pub fn as_slice(&self) -> &[Boxed<Sheet>]
         ensures sheets { result.now ≡ self.now }
         ensures names_differ { IsDistinct agrees (map (λ s. s.name) self.now) }
         ensures ids_differ { IsDistinct nat_eq (map (λ s. s.id) self.now) }
     {
         self.list.as_slice()
+    }
+
+    /// The sheet at an index, from 0. None exactly past the end.
+    pub fn get(&self, index: usize) -> Option<&Sheet>
+        ensures { option_map (λ s. s.now) result ≡ slice_get self.now index }
+    {
+        sheet_at(&self.list, index)
     }
 
     /// How many sheets there are.
@@ -239,12 +249,9 @@ impl Sheets {
 }
 
 /// The greatest id of the sheets that stand at these indexes, 0 where there is none.
-fn greatest_in(indexes: &BTreeMap<u32, usize>) -> u32
+fn greatest_in(indexes: &Spots) -> u32
     ensures { (sheets : List Sheet) → AreAtIndexes indexes.now sheets
         → result ≡ greatest (map (λ s. s.id) sheets) }
 {
-    match indexes.last_key_value() {
-        Some((id, _)) => *id,
-        None => 0,
-    }
+    indexes.greatest_id()
 }

@@ -102,7 +102,7 @@ pub fn bodies_without(
         sheet.name))) contents.now.definitions) }
     ensures fits { IfOk result (λ w. FitsBodies w contents.now.definitions) }
 {
-    let sheet = &contents.sheets.as_slice()[index];
+    let sheet = contents.sheets.as_slice()[index].as_ref();
     let definitions = NamedDefinitions {
         definitions: &contents.definitions,
         places,

@@ -167,7 +167,7 @@ impl Sheets {
         ensures err { OnErr result (self.new ≡ self.old) }
         ensures finds { FindsSheets ids.new self.new }
     {
-        let id = self.list[index].id;
+        let id = self.list[index].as_ref().id;
         let named = SheetNamed {
             id,
             name,
@@ -198,7 +198,7 @@ impl Sheets {
         ensures err { OnErr result (self.new ≡ self.old) }
         ensures finds { FindsSheets ids.new self.new }
     {
-        let sheet = &self.list[index];
+        let sheet = self.list[index].as_ref();
         let name = sheet.name.as_str();
         let gone = SheetGone {
             id: sheet.id,
@@ -303,7 +303,7 @@ impl Sheets {
             (λ s. FitsPool rewrites s.pool.formulas) }
         ensures { self.new ≡ updated_at (with_rewrites rewrites) index self.old }
     {
-        let sheet = &mut self.list[index];
+        let sheet = self.list[index].as_mut();
         let was = dangles(sheet);
         self.mentioners.note_changes(sheet.id, rewrites.changes());
         sheet.pool.apply(rewrites);

@@ -3,11 +3,11 @@ ghost use Rattle.std.specs.Prelude.{◌≡◌, ◌<◌, ◌&&◌, ℕ, IfOk, Som
 ghost use Rattle.std.specs.List.{IsDistinct};
 ghost use Rattle.ic_sheets.specs.Index.{AreAtIndexes, AreDangling, AreLookedAt, dangles, dangles_at, is_id, is_listed};
 
+use super::spots::Spots;
 use super::{index_in, sheet_at};
 use crate::Sheet;
-use ic_laws::OutOfMemory;
+use ic_laws::{Boxed, OutOfMemory};
 use std::alloc::Global;
-use std::collections::BTreeMap;
 
 /// Whether some formula of a sheet mentions something that wasn't found.
 pub fn dangles(sheet: &Sheet) -> bool
@@ -45,8 +45,8 @@ fn take_out(ids: &mut Vec<u32>, id: u32)
 /// The ids of the sheets in which something dangles, and this one, where there is a sheet with it.
 pub fn looked_at(
     alloc: Global,
-    sheets: &[Sheet],
-    indexes: &BTreeMap<u32, usize>,
+    sheets: &[Boxed<Sheet>],
+    indexes: &Spots,
     dangling: &[u32],
     id: u32,
 ) -> Result<Vec<u32>, OutOfMemory>
@@ -64,7 +64,7 @@ pub fn looked_at(
 }
 
 /// Whether there is a sheet with this id, and nothing dangles in it.
-fn is_clean_with(sheets: &[Sheet], indexes: &BTreeMap<u32, usize>, id: u32) -> bool
+fn is_clean_with(sheets: &[Boxed<Sheet>], indexes: &Spots, id: u32) -> bool
     requires placed { AreAtIndexes indexes.now sheets.now }
     requires differ { IsDistinct nat_eq (map (λ s. s.id) sheets.now) }
     ensures { result ≡ (is_id id sheets.now && not (dangles_at id sheets.now)) }
@@ -76,11 +76,7 @@ fn is_clean_with(sheets: &[Sheet], indexes: &BTreeMap<u32, usize>, id: u32) -> b
 }
 
 /// The sheet with this id.
-pub fn sheet_with<'s>(
-    sheets: &'s [Sheet],
-    indexes: &BTreeMap<u32, usize>,
-    id: u32,
-) -> Option<&'s Sheet>
+pub fn sheet_with<'s>(sheets: &'s [Boxed<Sheet>], indexes: &Spots, id: u32) -> Option<&'s Sheet>
     ensures { AreAtIndexes indexes.now sheets.now
         → option_map (λ s. s.now) result ≡ find (λ s. nat_eq s.id id) sheets.now }
 {

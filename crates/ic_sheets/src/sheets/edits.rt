@@ -1,18 +1,17 @@
 //! Sheets come, go, get other names and stand at other indexes.
-ghost use Rattle.std.specs.Prelude.{◌≡◌, ◌<◌, ◌≤◌, ◌++◌, ℕ, List, [], ◌∷◌, Some, None, OnOk, OnErr, bytes_eq, chars, cond, false, true, insert, is_some, length, map, nat_eq, option_map, remove, string_bytes};
-ghost use Rattle.std.specs.BTreeMap.{get, get_by_text};
-ghost use Rattle.std.specs.List.{IsDistinct, list_any};
-ghost use Rattle.std.specs.Ordering.{nat_cmp};
+ghost use Rattle.std.specs.Prelude.{◌≡◌, ◌<◌, ◌≤◌, ◌++◌, ℕ, List, [], ◌∷◌, Some, None, OnOk, OnErr, bytes_eq, chars, cond, false, true, insert, length, map, nat_eq, remove, string_bytes};
+ghost use Rattle.std.specs.BTreeMap.{get_by_text};
+ghost use Rattle.std.specs.List.{list_any};
 ghost use Rattle.ic_laws.specs.CoreStep.{moved, updated_at};
 ghost use Rattle.ic_laws.specs.Name.{agrees};
-ghost use Rattle.ic_sheets.specs.Index.{AreAtIndexes, AreAtOthers, FindsSheets, Follow, IsFoundBy, LosesName, StillFinds, lowered, moved_index, other_than};
+ghost use Rattle.ic_sheets.specs.Index.{FindsSheets, IsFoundBy, LosesName, StillFinds, other_than};
 ghost use Rattle.ic_sheets.specs.Sheet.{empty_grid, plain_tab};
 
 use super::dangling::{dangles, settle};
 use super::{Sheets, folded, greatest_in};
 use crate::{Sheet, Tab};
 use ic_grid::Grid;
-use ic_laws::{OutOfMemory, Text};
+use ic_laws::{Boxed, OutOfMemory, Text};
 use ic_pool::Pool;
 use std::alloc::Global;
 use std::collections::BTreeMap;
@@ -44,21 +43,16 @@ impl Sheets {
     {
         let key = folded(self.alloc, name)?;
         let name = Text::from_str(self.alloc, name)?;
+        let sheet = Boxed::new(self.alloc, Sheet::new(self.alloc, id, name))?;
         self.list.reserve(1)?;
         let place = self.list.len();
         self.dangling.reserve(place + 1)?;
-        self.indexes.insert(id, place)?;
-        match put_id(ids, key, id) {
-            Ok(()) => {
-                self.list.push_reserved(Sheet::new(self.alloc, id, name));
-                self.greatest = self.greatest.max(id);
-                Ok(())
-            }
-            Err(error) => {
-                self.indexes.remove(&id);
-                Err(error)
-            }
-        }
+        self.indexes.reserve()?;
+        put_id(ids, key, id)?;
+        self.indexes.put(id, place);
+        self.list.push_reserved(sheet);
+        self.greatest = self.greatest.max(id);
+        Ok(())
     }
 
     /// Puts a sheet in at an index, from 0 and at most the number of sheets, so that those from there on stand one further.
@@ -101,7 +95,7 @@ impl Sheets {
         ensures { self.new ≡ updated_at
             (λ s. record s { pool = pool; grid = grid; tab = tab }) index self.old }
     {
-        let sheet = &mut self.list[index];
+        let sheet = self.list[index].as_mut();
         let was = dangles(sheet);
         sheet.fill(pool, grid, tab);
         settle(&mut self.dangling, sheet.id, was, dangles(sheet));
@@ -126,11 +120,11 @@ impl Sheets {
     {
         let key = folded(self.alloc, name)?;
         let new_name = Text::from_str(self.alloc, name)?;
-        let sheet = &self.list[index];
+        let sheet = self.list[index].as_ref();
         let id = sheet.id;
         let old_key = folded(self.alloc, sheet.name.as_str())?;
         rekey(ids, old_key.as_str(), key, id)?;
-        let sheet = &mut self.list[index];
+        let sheet = self.list[index].as_mut();
         sheet.name = new_name;
         Ok(())
     }
@@ -142,13 +136,13 @@ impl Sheets {
         ensures left { self.new ≡ remove self.old index }
         ensures finds { FindsSheets ids.new self.new }
     {
-        let sheet = &self.list[index];
+        let sheet = self.list[index].as_ref();
         let id = sheet.id;
         settle(&mut self.dangling, id, dangles(sheet), false);
         take_key(self.alloc, ids, sheet.name.as_str(), id);
-        self.indexes.remove(&id);
+        self.indexes.take_out(id);
         self.list.remove(index);
-        lower_indexes(&mut self.indexes, &self.list, index);
+        self.indexes.lower(index);
         self.greatest = greatest_in(&self.indexes);
     }
 
@@ -162,12 +156,12 @@ impl Sheets {
         ensures finds { StillFinds self.old self.new }
     {
         shift(&mut self.list, from, to);
-        move_indexes(&mut self.indexes, &self.list, from, to);
+        self.indexes.follow(from, to);
     }
 }
 
 /// Puts the sheet at an index to another, both from 0; those between stand one further or one before.
-fn shift(sheets: &mut [Sheet], from: usize, to: usize)
+fn shift(sheets: &mut [Boxed<Sheet>], from: usize, to: usize)
     requires from { from < length sheets.old }
     requires to { to < length sheets.old }
     ensures { sheets.new ≡ moved from to sheets.old }
@@ -208,106 +202,6 @@ fn take_id(ids: &mut BTreeMap<String, u32>, id: u32)
     ensures { (q : List ℕ) → get_by_text ids.new q ≡ other_than id (get_by_text ids.old q) }
 {
     ids.retain(|_, found| *found != id);
-}
-
-/// The indexes of these sheets after the one that was taken away are lowered by one.
-fn lower_indexes(indexes: &mut BTreeMap<u32, usize>, sheets: &[Sheet], index: usize)
-    requires differ { IsDistinct nat_eq (map (λ s. s.id) sheets.now) }
-    requires follow { Follow (lowered index) indexes.old sheets.now }
-    ensures { AreAtIndexes indexes.new sheets.now }
-{
-    let count = sheets.len();
-    if is_few(count.saturating_sub(index), count) {
-        renumber(indexes, sheets, index, count);
-    } else {
-        lower_all(indexes, index);
-    }
-}
-
-/// All indexes after this one are lowered by one.
-fn lower_all(indexes: &mut BTreeMap<u32, usize>, index: usize)
-    ensures { (id : ℕ) → get nat_cmp indexes.new id
-        ≡ option_map (lowered index) (get nat_cmp indexes.old id) }
-{
-    indexes.retain(|_, place| {
-        *place = lowered(*place, index);
-        true
-    });
-}
-
-/// The indexes follow the one of these sheets that was put from one to another.
-fn move_indexes(indexes: &mut BTreeMap<u32, usize>, sheets: &[Sheet], from: usize, to: usize)
-    requires from { from < length sheets.now }
-    requires to { to < length sheets.now }
-    requires differ { IsDistinct nat_eq (map (λ s. s.id) sheets.now) }
-    requires follow { Follow (moved_index from to) indexes.old sheets.now }
-    ensures { AreAtIndexes indexes.new sheets.now }
-{
-    let low = from.min(to);
-    let end = from.max(to) + 1;
-    if is_few(end - low, sheets.len()) {
-        renumber(indexes, sheets, low, end);
-    } else {
-        move_all(indexes, from, to);
-    }
-}
-
-/// All indexes follow the sheet that is put from one to another.
-fn move_all(indexes: &mut BTreeMap<u32, usize>, from: usize, to: usize)
-    ensures { (id : ℕ) → get nat_cmp indexes.new id
-        ≡ option_map (moved_index from to) (get nat_cmp indexes.old id) }
-{
-    indexes.retain(|_, place| {
-        *place = moved_index(*place, from, to);
-        true
-    });
-}
-
-/// Whether so many of all sheets are sooner gone over by their ids, one by one, than the look-up from end to end.
-fn is_few(some: usize, all: usize) -> bool {
-    some < all / 8
-}
-
-/// The sheets from one index up to another get the index at which they stand. The others have theirs.
-fn renumber(indexes: &mut BTreeMap<u32, usize>, sheets: &[Sheet], from: usize, to: usize)
-    requires within { to ≤ length sheets.now }
-    requires differ { IsDistinct nat_eq (map (λ s. s.id) sheets.now) }
-    requires others { AreAtOthers from to indexes.old sheets.now }
-    ensures { AreAtIndexes indexes.new sheets.now }
-{
-    for index in from..to {
-        put_index(indexes, sheets[index].id, index);
-    }
-}
-
-/// Puts an index over the one at an id. It takes no memory.
-fn put_index(indexes: &mut BTreeMap<u32, usize>, id: u32, index: usize)
-    requires { is_some (get nat_cmp indexes.old id) ≡ true }
-    ensures { (q : ℕ) → get nat_cmp indexes.new q
-        ≡ cond (nat_eq id q) (Some index) (get nat_cmp indexes.old q) }
-{
-    // There is one at the id, so that there is room.
-    let _ = indexes.insert(id, index);
-}
-
-/// An index, lowered by one where it is past this one.
-fn lowered(place: usize, index: usize) -> usize
-    ensures { result ≡ lowered index place }
-{
-    if place > index { place - 1 } else { place }
-}
-
-/// Where the sheet at an index stands after the one at `from` was put to `to`.
-fn moved_index(place: usize, from: usize, to: usize) -> usize
-    ensures { result ≡ moved_index from to place }
-{
-    if place == from {
-        return to;
-    }
-    if place > from {
-        return if place - 1 < to { place - 1 } else { place };
-    }
-    if place < to { place } else { place + 1 }
 }
 
 /// Takes a key out and puts another in, which may be the same.

@@ -39,7 +39,7 @@ impl Sheets {
         ensures err { OnErr result (map sheet_of self.new ≡ map sheet_of self.old) }
         ensures looks_up { OnErr result (AreSameOrLookUp index self.old self.new) }
     {
-        let sheet = &mut self.list[index];
+        let sheet = self.list[index].as_mut();
         let was = dangles(sheet);
         let count = sheet.pool.len();
         let written = sheet.write(row, column, formula, kind, style);
@@ -66,7 +66,7 @@ impl Sheets {
         ensures looks_up { OnErr result (AreSameOrLookUp index self.old self.new) }
         ensures kept_styles { OnErr result (styles.new ≡ styles.old) }
     {
-        let sheet = &mut self.list[index];
+        let sheet = self.list[index].as_mut();
         let was = dangles(sheet);
         let count = sheet.pool.len();
         let written = sheet.write_array(styles, block, formula);
@@ -96,7 +96,7 @@ impl Sheets {
         ensures cost { steps.new ≤ steps.old + length (pool_at self.old index) }
         ensures grows { steps.old ≤ steps.new }
     {
-        let sheet = &mut self.list[index];
+        let sheet = self.list[index].as_mut();
         let was = dangles(sheet);
         let count = sheet.pool.len();
         let placed = sheet.place_copy(formula, steps);

@@ -18,7 +18,7 @@ impl Sheets {
             (λ s. FnOnceTakesAtMut F.FnOnce change s.grid) }
         ensures { ChangesGrid F.FnOnce change index result self.old self.new }
     {
-        let sheet = &mut self.list[index];
+        let sheet = self.list[index].as_mut();
         change(&mut sheet.grid)
     }
     /// Writes a cell without a formula at a row and a column, both from 1, of the sheet at an index, from 0. The place is
@@ -37,7 +37,7 @@ impl Sheets {
             (λ s. record s { grid = with_cell_in (row, column) cell s.grid }) index self.old) }
         ensures err { OnErr result (self.new ≡ self.old) }
     {
-        let sheet = &mut self.list[index];
+        let sheet = self.list[index].as_mut();
         match sheet.grid.write(row, column, cell) {
             Ok(()) => Ok(()),
             Err(_) => Err(OutOfMemory),

@@ -1,20 +1,21 @@
 //! Which sheets have formulas that mention something with one of some topics.
 ghost use Rattle.std.specs.Prelude.{◌≡◌, ℕ, IfOk, OnOk, Some, map, true};
-ghost use Rattle.std.specs.BTreeMap.{get};
 ghost use Rattle.std.specs.BTreeSet.{contains};
 ghost use Rattle.std.specs.List.{slice_get};
 ghost use Rattle.std.specs.Ordering.{nat_cmp};
 ghost use Rattle.ic_pool.specs.MentionPlaces.{has_place_of};
 ghost use Rattle.ic_sheets.specs.Index.{is_listed, is_part};
 ghost use Rattle.ic_sheets.specs.Mentioners.{AreAbout};
+ghost use Rattle.ic_sheets.specs.Spots.{index_at};
 ghost use Rattle.ic_sheets.specs.declared.sheet.Sheet.{Sheet as HeldSheet};
 
+use super::spots::Spots;
 use super::{Sheets, index_in, sheet_at};
 use crate::Sheet;
 use crate::mentioners::Mentioners;
-use ic_laws::OutOfMemory;
+use ic_laws::{Boxed, OutOfMemory};
 use std::alloc::Global;
-use std::collections::{BTreeMap, BTreeSet};
+use std::collections::BTreeSet;
 
 impl Sheets {
     /// The ids of the sheets of which some formula mentions something with one of these topics, and maybe of others, in the
@@ -31,12 +32,12 @@ impl Sheets {
 }
 
 /// The ids of all sheets.
-fn all_ids(alloc: Global, sheets: &[Sheet]) -> Result<Vec<u32>, OutOfMemory>
+fn all_ids(alloc: Global, sheets: &[Boxed<Sheet>]) -> Result<Vec<u32>, OutOfMemory>
     ensures { IfOk result (λ ids. ids.items ≡ map (λ s. s.id) sheets.now) }
 {
     let mut ids = Vec::with_capacity(alloc, sheets.len())?;
     for sheet in sheets {
-        ids.push_reserved(sheet.id);
+        ids.push_reserved(sheet.as_ref().id);
     }
     Ok(ids)
 }
@@ -45,12 +46,12 @@ fn all_ids(alloc: Global, sheets: &[Sheet]) -> Result<Vec<u32>, OutOfMemory>
 fn indexes_about(
     alloc: Global,
     mentioners: &Mentioners,
-    indexes: &BTreeMap<u32, usize>,
+    indexes: &Spots,
     topics: &[u64],
 ) -> Result<BTreeSet<usize>, OutOfMemory>
     ensures { IfOk result (λ about. (id : ℕ) → (index : ℕ)
         → has_place_of mentioners.now.index topics.now id ≡ true
-        → get nat_cmp indexes.now id ≡ Some index → contains nat_cmp about index ≡ true) }
+        → index_at id indexes.now.list.items ≡ Some index → contains nat_cmp about index ≡ true) }
 {
     let mut about = BTreeSet::new(alloc);
     for topic in topics {
@@ -60,15 +61,11 @@ fn indexes_about(
 }
 
 /// Puts the indexes of the sheets with these ids in.
-fn put_indexes(
-    about: &mut BTreeSet<usize>,
-    indexes: &BTreeMap<u32, usize>,
-    ids: &[u32],
-) -> Result<(), OutOfMemory>
+fn put_indexes(about: &mut BTreeSet<usize>, indexes: &Spots, ids: &[u32]) -> Result<(), OutOfMemory>
     ensures kept { (index : ℕ) → contains nat_cmp about.old index ≡ true
         → contains nat_cmp about.new index ≡ true }
     ensures put { OnOk result ((id : ℕ) → (index : ℕ) → is_listed id ids.now ≡ true
-        → get nat_cmp indexes.now id ≡ Some index → contains nat_cmp about.new index ≡ true) }
+        → index_at id indexes.now.list.items ≡ Some index → contains nat_cmp about.new index ≡ true) }
 {
     for id in ids {
         if let Some(index) = index_in(indexes, *id) {
@@ -81,7 +78,7 @@ fn put_indexes(
 /// The ids of the sheets at these indexes, from 0, in the order of the sheets.
 fn ids_at(
     alloc: Global,
-    sheets: &[Sheet],
+    sheets: &[Boxed<Sheet>],
     indexes: &BTreeSet<usize>,
 ) -> Result<Vec<u32>, OutOfMemory>
     ensures ordered { IfOk result (λ ids.

@@ -5,7 +5,7 @@ ghost use Rattle.ic_sheets.specs.Numbers.{AreMarked, numbered};
 
 use super::Sheets;
 use crate::Sheet;
-use ic_laws::OutOfMemory;
+use ic_laws::{Boxed, OutOfMemory};
 
 /// Whether a zero stands first.
 fn has_zero(text: &str) -> bool
@@ -43,14 +43,14 @@ fn number_behind(word: &str, name: &str) -> Option<u64>
 }
 
 /// Marks the number that a sheet's name has behind a word, if there is room for it.
-fn mark(marks: &mut Vec<bool>, word: &str, sheets: &[Sheet], index: usize)
+fn mark(marks: &mut Vec<bool>, word: &str, sheets: &[Boxed<Sheet>], index: usize)
     requires within { index < length sheets.now }
     requires before { AreMarked (numbered (chars word.now)) (map (λ s. s.name) sheets.now)
         marks.old.items }
     ensures { AreMarked (numbered (chars word.now)) (map (λ s. s.name) sheets.now)
         marks.new.items }
 {
-    let Some(number) = number_behind(word, sheets[index].name.as_str()) else {
+    let Some(number) = number_behind(word, sheets[index].as_ref().name.as_str()) else {
         return;
     };
     if number == 0 || number > marks.len() as u64 {
@@ -60,7 +60,7 @@ fn mark(marks: &mut Vec<bool>, word: &str, sheets: &[Sheet], index: usize)
 }
 
 /// Marks the numbers that the names of sheets have behind a word.
-fn mark_all(marks: &mut Vec<bool>, word: &str, sheets: &[Sheet])
+fn mark_all(marks: &mut Vec<bool>, word: &str, sheets: &[Boxed<Sheet>])
     requires { AreMarked (numbered (chars word.now)) (map (λ s. s.name) sheets.now)
         marks.old.items }
     ensures { AreMarked (numbered (chars word.now)) (map (λ s. s.name) sheets.now)

@@ -7,17 +7,17 @@ ghost use Rattle.ic_sheets.specs.Remade.{IsRemade};
 ghost use Rattle.ic_sheets.specs.Rewriting.{IsPrepared, PreparesEach};
 
 use super::dangling::sheet_with;
+use super::spots::Spots;
 use crate::Sheet;
-use ic_laws::OutOfMemory;
+use ic_laws::{Boxed, OutOfMemory};
 use ic_pool::{BookChange, Remaking, Rewrites};
 use std::alloc::Global;
-use std::collections::BTreeMap;
 
 /// What a change does to the formulas of each of the sheets with these ids, with each its id.
 pub fn prepare_own<C: BookChange>(
     alloc: Global,
-    sheets: &[Sheet],
-    indexes: &BTreeMap<u32, usize>,
+    sheets: &[Boxed<Sheet>],
+    indexes: &Spots,
     ids: &[u32],
     change: &C,
 ) -> Result<Vec<(u32, Rewrites)>, OutOfMemory>
@@ -40,8 +40,8 @@ pub fn prepare_own<C: BookChange>(
 /// The same where a rule makes formulas anew, if it leaves each that it doesn't touch.
 pub fn prepare_remade<R: Remaking>(
     alloc: Global,
-    sheets: &[Sheet],
-    indexes: &BTreeMap<u32, usize>,
+    sheets: &[Boxed<Sheet>],
+    indexes: &Spots,
     ids: &[u32],
     remaking: &R,
 ) -> Result<Vec<(u32, Rewrites)>, OutOfMemory>

@@ -14,7 +14,7 @@ impl Sheets {
         requires callable { (tab : Tab) → FnOnceTakesAtMut F.FnOnce change tab }
         ensures { ChangesTab F.FnOnce change index result self.old self.new }
     {
-        let sheet = &mut self.list[index];
+        let sheet = self.list[index].as_mut();
         change(&mut sheet.tab)
     }
 }

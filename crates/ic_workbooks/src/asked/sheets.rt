@@ -13,7 +13,7 @@ ghost use Rattle.ic_workbooks.specs.Filled.{AreFilled, IsCountBelow, IsLaidOut, 
 use crate::numbered::ask_strings;
 use crate::referring::has_formulas;
 use ic_cells::{Styles, Workbook};
-use ic_laws::{LAST_COLUMN, LAST_ROW};
+use ic_laws::{Boxed, LAST_COLUMN, LAST_ROW};
 use ic_parts::BookError;
 use ic_sheets::{Sheet, Tab};
 
@@ -66,7 +66,7 @@ impl SheetCondition {
 
 /// Asks for the conditions from the sixth on, one after another, of a workbook that meets those before: of the sheets that
 /// its records make.
-pub fn ask_sheets(workbook: &Workbook, sheets: &[Sheet]) -> Result<(), BookError>
+pub fn ask_sheets(workbook: &Workbook, sheets: &[Boxed<Sheet>]) -> Result<(), BookError>
     ensures met { OnOk result ((tables : TableSet) → (numbers : List ℕ)
         → AreFilled workbook.now tables numbers sheets.now
         → ((language : List ℕ) → MeetsTo 5 workbook.now language tables)
@@ -89,7 +89,7 @@ pub fn ask_sheets(workbook: &Workbook, sheets: &[Sheet]) -> Result<(), BookError
 }
 
 /// Asks whether the styles that the sheets name are there; then gives how many there are.
-fn ask_styles(styles: &Styles, sheets: &[Sheet]) -> Result<usize, BookError>
+fn ask_styles(styles: &Styles, sheets: &[Boxed<Sheet>]) -> Result<usize, BookError>
     ensures { MatchResult result
         (λ count. AreStyles styles.now
         × AllByRecursion (IsMet SheetCondition.Styles styles.now) sheets.now)
@@ -100,14 +100,14 @@ fn ask_styles(styles: &Styles, sheets: &[Sheet]) -> Result<usize, BookError>
 }
 
 /// Asks whether each of these sheets meets a condition, where these are the styles.
-fn ask_each(condition: SheetCondition, styles: &Styles, sheets: &[Sheet]) -> Result<(), BookError>
+fn ask_each(condition: SheetCondition, styles: &Styles, sheets: &[Boxed<Sheet>]) -> Result<(), BookError>
     ensures { MatchResult result
         (λ done. AllByRecursion (IsMet condition styles.now) sheets.now)
         (Breaks (sheet_number condition)
         (AllByRecursion (IsMet condition styles.now) sheets.now)) }
 {
     for sheet in sheets {
-        if !condition.is_met(styles, sheet) {
+        if !condition.is_met(styles, sheet.as_ref()) {
             return Err(BookError::BadWorkbook(condition.number()));
         }
     }

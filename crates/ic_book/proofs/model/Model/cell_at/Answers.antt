@@ -5,13 +5,12 @@ use Rattle.std.proofs.lemmas.Option.{slice_get-map}
 use Rattle.ic_sheets.proofs.CellLemmas.{stored_pair}
 use Rattle.ic_sheets.specs.Sheet.{sheet_of}
 use Rattle.ic_parts.specs.Book.{ModelState}
-use Rattle.ic_parts.proofs.HeldLemmas.{at_index}
 use Rattle.ic_book.proofs.model.Model.cell_at.Goals as goal
 
 pub returns-in-Some-clause-finds : goal.returns-in-Some-clause-finds
 returns-in-Some-clause-finds c =
     let entry = c.in-Some.sheet.now in
-    let there = at_index c.as_slice.result.now c.self.inside.contents.sheets c.args.sheet entry c.as_slice.ensures.sheets c.in-Some.ensures.lookup.0 c.in-Some.ensures.lookup.1 in (
+    let there = sym c.get.ensures ∙ ap (option_map (λ s. s.now)) c.in-Some.is in (
       sheet_of entry,
       ap (λ (m : ModelState). slice_get m.book.sheets c.args.sheet) (sym c.self.view_is) ∙ slice_get-map sheet_of c.self.inside.contents.sheets c.args.sheet ∙ ap (option_map sheet_of) there,
       c.get-in-Some.ensures ∙ ap (finite.get entry.grid.cells) (stored_pair c.args.row c.args.column c.ranges.row c.ranges.column),

@@ -3,10 +3,9 @@ use Rattle.std.proofs.lemmas.Option.{slice_get-map}
 use Rattle.std.specs.List.{slice_get}
 use Rattle.ic_sheets.specs.Sheet.{Sheet, sheet_of}
 use Rattle.ic_parts.specs.Book.{ModelState}
-use Rattle.ic_parts.proofs.HeldLemmas.{at_index}
 use Rattle.ic_book.proofs.model.Model.id_at.Goals as goal
 
 pub returns : goal.returns
 returns c =
-    let at = at_index c.as_slice.result.now c.self.inside.contents.sheets c.args.sheet c.in_ok-found.found.now c.as_slice.ensures.sheets c.in_ok-found.ensures.lookup.0 c.in_ok-found.ensures.lookup.1 in
+    let at = sym c.get.ensures ∙ ap (option_map (λ s. s.now)) c.in_ok-found.is in
     sym (ap (option_map (λ (s : Sheet). s.id)) (slice_get-map sheet_of c.self.inside.contents.sheets c.args.sheet ∙ ap (option_map sheet_of) at)) ∙ ap (λ (m : ModelState). option_map (λ (s : Sheet). s.id) (slice_get m.book.sheets c.args.sheet)) c.self.view_is

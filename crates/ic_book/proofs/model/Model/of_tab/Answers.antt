@@ -1,4 +1,4 @@
-use Rattle.std.proofs.Common.{◌≡◌, ◌≤◌, None, length, refl, subst}
+use Rattle.std.proofs.Common.{◌≡◌, None, refl, subst, sym}
 use Rattle.std.proofs.lemmas.Option.{slice_get-map}
 use Rattle.std.proofs.Common.{ap, option_map, ◌∙◌}
 use Rattle.std.specs.List.{slice_get}
@@ -8,8 +8,7 @@ use Rattle.ic_parts.specs.Book.{IsValidBook, ModelState}
 use Rattle.ic_parts.specs.Does.{DoesStep, wants}
 use Rattle.ic_book.specs.Inside.{held_state}
 use Rattle.ic_parts.specs.Whole.{whole_of}
-use Rattle.ic_parts.proofs.HeldLemmas.{at_index}
-use Rattle.ic_book.proofs.PartLemmas.{not_held, past_end, tab_missing, tab_reads}
+use Rattle.ic_book.proofs.PartLemmas.{tab_missing, tab_reads}
 use Rattle.ic_book.proofs.model.Model.of_tab.Goals as goal
 
 pub returns-in_default : goal.returns-in_default
@@ -17,15 +16,14 @@ returns-in_default g c = record {
   does = λ memory step fields h.
       tab_missing c.args.self.now (subst (λ (m : ModelState). IsValidBook m.book) c.self.view_is c.self.invariant.book) c.args.sheet memory step fields
       (subst (λ (m : ModelState). slice_get m.book.sheets c.args.sheet ≡ None) c.self.view_is
-      (not_held c.self.inside c.self.invariant.book c.args.sheet
-      (subst (λ ws. length ws ≤ c.args.sheet) c.as_slice.ensures.sheets (past_end c.args.sheet (length c.as_slice.result.now) c.in_default.ensures.lookup.0))));
+      (slice_get-map sheet_of c.self.inside.contents.sheets c.args.sheet ∙ ap (option_map sheet_of) (sym c.get.ensures ∙ ap (option_map (λ s. s.now)) c.in_default.is)));
 }
 
 pub returns : goal.returns
 returns g c = record {
   does = λ memory step fields h.
       let inside : ModelState = held_state c.self.inside in
-      let there = at_index c.as_slice.result.now c.self.inside.contents.sheets c.args.sheet c.in-Some.sheet.now c.as_slice.ensures.sheets c.in-Some.ensures.lookup.0 c.in-Some.ensures.lookup.1 in
+      let there = sym c.get.ensures ∙ ap (option_map (λ s. s.now)) c.in-Some.is in
       subst (λ (m : ModelState). DoesStep (wants memory) (on_tab (whole_of m.book) c.args.sheet step) fields c.read.result m m) c.self.view_is
       (tab_reads inside c.self.invariant.book c.args.sheet memory step fields (sheet_of c.in-Some.sheet.now) (slice_get-map sheet_of c.self.inside.contents.sheets c.args.sheet ∙ ap (option_map sheet_of) there) c.read.result
       (h c.in-Some.sheet.now.tab c.read.result (_, c.read.ensures, refl)));

@@ -1,10 +1,9 @@
-use Rattle.std.proofs.Common.{IfSome, Some, ap, option_and_then, subst, ◌∙◌}
+use Rattle.std.proofs.Common.{IfSome, Some, ap, option_and_then, option_map, subst, sym, ◌∙◌}
 use Rattle.std.specs.List.{slice_get}
 use Rattle.ic_laws.specs.Notations.{AreNotations}
 use Rattle.ic_laws.specs.ValidCore.{IsPooled}
 use Rattle.ic_sheets.specs.Sheet.{Sheet}
 use Rattle.ic_parts.specs.Book.{ModelState, notations_in, scene_in}
-use Rattle.ic_parts.proofs.HeldLemmas.{at_index}
 use Rattle.ic_book.proofs.HeldLemmas.{formula_in_pool, notations, pooled_of}
 use Rattle.ic_book.proofs.model.Model.parsed_formula.Goals as goal
 
@@ -14,13 +13,13 @@ returns-in_err-worksheet-clause-notations c = subst (λ (m : ModelState). AreNot
 pub returns-clause-formula : goal.returns-clause-formula
 returns-clause-formula c =
     c.get-2.ensures
-    ∙ formula_in_pool c.self.inside c.self.invariant.book c.args.sheet c.in_ok-worksheet.worksheet.now c.args.index (at_index c.as_slice.result.now c.self.inside.contents.sheets c.args.sheet c.in_ok-worksheet.worksheet.now c.as_slice.ensures.sheets c.in_ok-worksheet.ensures.lookup.0 c.in_ok-worksheet.ensures.lookup.1)
+    ∙ formula_in_pool c.self.inside c.self.invariant.book c.args.sheet c.in_ok-worksheet.worksheet.now c.args.index (sym c.get.ensures ∙ ap (option_map (λ s. s.now)) c.in_ok-worksheet.is)
     ∙ ap (λ (m : ModelState). option_and_then (λ (s : Sheet). slice_get s.pool c.args.index) (slice_get m.book.sheets c.args.sheet)) c.self.view_is
 
 pub returns-clause-pooled : goal.returns-clause-pooled
 returns-clause-pooled c =
     subst (λ (m : ModelState). IfSome c.get-2.result (λ f. IfSome (slice_get m.book.sheets c.args.sheet) (λ s. IsPooled (notations_in m.book) (scene_in m.book) (Some s.id) f.now))) c.self.view_is
-    (pooled_of c.self.inside c.self.invariant.book c.args.sheet c.in_ok-worksheet.worksheet.now c.get-2.result c.args.index (at_index c.as_slice.result.now c.self.inside.contents.sheets c.args.sheet c.in_ok-worksheet.worksheet.now c.as_slice.ensures.sheets c.in_ok-worksheet.ensures.lookup.0 c.in_ok-worksheet.ensures.lookup.1) c.get-2.ensures)
+    (pooled_of c.self.inside c.self.invariant.book c.args.sheet c.in_ok-worksheet.worksheet.now c.get-2.result c.args.index (sym c.get.ensures ∙ ap (option_map (λ s. s.now)) c.in_ok-worksheet.is) c.get-2.ensures)
 
 pub returns-clause-notations : goal.returns-clause-notations
 returns-clause-notations c = subst (λ (m : ModelState). AreNotations (notations_in m.book)) c.self.view_is (notations c.self.inside c.self.invariant.book)

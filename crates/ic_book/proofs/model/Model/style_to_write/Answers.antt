@@ -1,4 +1,4 @@
-use Rattle.std.proofs.Common.{◌≡◌, ◌≤◌, ◌∙◌, None, ap, length, option_map, refl, subst, sym}
+use Rattle.std.proofs.Common.{◌≡◌, ◌∙◌, None, ap, option_map, refl, subst, sym}
 use Rattle.std.specs.List.{slice_get}
 use Rattle.std.proofs.lemmas.Option.{slice_get-map}
 use Rattle.ic_laws.specs.CoreBook.{CellPlace}
@@ -8,15 +8,13 @@ use Rattle.ic_sheets.specs.Sheet.{sheet_of}
 use Rattle.ic_parts.specs.Book.{ModelState}
 use Rattle.ic_parts.specs.Refused.{TellsOnly}
 use Rattle.ic_parts.specs.Values.{value_causes, value_refusal_in}
-use Rattle.ic_parts.proofs.HeldLemmas.{at_index}
-use Rattle.ic_book.proofs.PartLemmas.{not_held, past_end}
 use Rattle.ic_book.proofs.model.Model.style_to_write.Goals as goal
 
 pub returns-in-Some-clause-refused : goal.returns-in-Some-clause-refused
 returns-in-Some-clause-refused c =
     let entry = c.in-Some.sheet.now in
     let place : CellPlace = (c.args.row, c.args.column) in
-    let there = at_index c.as_slice.result.now c.self.inside.contents.sheets c.args.sheet entry c.as_slice.ensures.sheets c.in-Some.ensures.lookup.0 c.in-Some.ensures.lookup.1 in
+    let there = sym c.get.ensures ∙ ap (option_map (λ s. s.now)) c.in-Some.is in
     let found = ap (λ (m : ModelState). slice_get m.book.sheets c.args.sheet) (sym c.self.view_is) ∙ slice_get-map sheet_of c.self.inside.contents.sheets c.args.sheet ∙ ap (option_map sheet_of) there in
     subst (TellsOnly c.style_in.result)
     (ap (λ (p : CellPlace). first_refusal (value_causes entry.grid p)) (stored_pair c.args.row c.args.column c.ranges.row c.ranges.column) ∙ sym (ap (value_refusal_in place) found))
@@ -27,6 +25,5 @@ returns-in-None-clause-refused c =
     let place : CellPlace = (c.args.row, c.args.column) in
     let none =
     subst (λ (m : ModelState). slice_get m.book.sheets c.args.sheet ≡ None) c.self.view_is
-    (not_held c.self.inside c.self.invariant.book c.args.sheet
-    (subst (λ ws. length ws ≤ c.args.sheet) c.as_slice.ensures.sheets (past_end c.args.sheet (length c.as_slice.result.now) c.in-None.ensures.lookup.0))) in
+    (slice_get-map sheet_of c.self.inside.contents.sheets c.args.sheet ∙ ap (option_map sheet_of) (sym c.get.ensures ∙ ap (option_map (λ s. s.now)) c.in-None.is)) in
     (InvalidSheet, refl, ap (value_refusal_in place) none)

@@ -7,6 +7,7 @@ use Rattle.ic_laws.specs.FormulaReading.{cell_formula}
 use Rattle.ic_cells.specs.declared.style.Style.{Style}
 use Rattle.ic_machine.specs.Styling.{restyled}
 use Rattle.ic_machine.specs.subjects.Writing.{unquoted}
+use Rattle.ic_sheets.proofs.IndexLemmas.{read_boxed}
 use Rattle.ic_sheets.proofs.CellLemmas.{stored_pair}
 use Rattle.ic_sheets.specs.Sheet.{Sheet, TakesCell, formula_cell, sheet_of, with_cell_in}
 use Rattle.ic_sheets.specs.declared.sheet.Sheet.{Sheet as HeldSheet}
@@ -30,8 +31,8 @@ without_quote-requires c =
     let body = chars c.args.body.now in
     let cell = stored_pair c.args.row c.args.column c.ranges.row c.ranges.column in
     let none = ap (λ (m : ModelState). value_refusal m.book sheet c.args.row c.args.column) c.self.view_is ∙ c.requires.allowed in
-    let entry = c.index-as_slice-sheet.result in
-    let there = entry_at c.self.inside c.self.invariant.book sheet place none c.as_slice.result.now entry c.as_slice.ensures.sheets c.index-as_slice-sheet.is in
+    let entry = c.as_ref-worksheet.result.now in
+    let there = entry_at c.self.inside c.self.invariant.book sheet place none c.as_slice.result.now entry c.as_slice.ensures.sheets (read_boxed c.as_slice.result.now sheet c.as_ref-worksheet.ensures c.index-as_slice-sheet.is) in
     let shown =
     subst (λ o. IfSome o (λ (s : Sheet). c.args.shown ≡ shown_style s c.args.row c.args.column)) (slice_get-map sheet_of c.self.inside.contents.sheets sheet ∙ ap (option_map sheet_of) there)
     (subst (λ (m : ModelState). Shows m.book sheet c.args.row c.args.column c.args.shown) (sym c.self.view_is) c.requires.shows) in
@@ -53,8 +54,8 @@ write-requires-clause-takes c =
     let body = chars c.args.body.now in
     let cell = stored_pair c.args.row c.args.column c.ranges.row c.ranges.column in
     let none = ap (λ (m : ModelState). value_refusal m.book sheet c.args.row c.args.column) c.self.view_is ∙ c.requires.allowed in
-    let entry = c.index-as_slice-sheet.result in
-    let there = entry_at c.self.inside c.self.invariant.book sheet place none c.as_slice.result.now entry c.as_slice.ensures.sheets c.index-as_slice-sheet.is in
+    let entry = c.as_ref-worksheet.result.now in
+    let there = entry_at c.self.inside c.self.invariant.book sheet place none c.as_slice.result.now entry c.as_slice.ensures.sheets (read_boxed c.as_slice.result.now sheet c.as_ref-worksheet.ensures c.index-as_slice-sheet.is) in
     subst (λ (p : CellPlace). IfSome (slice_get c.self.inside.contents.sheets sheet) (λ (s : HeldSheet). TakesCell p s.grid)) (sym cell)
     (takes_there c.self.inside c.self.invariant.book sheet place none entry there)
 
@@ -65,8 +66,8 @@ invariant_of-self-in-Ok c =
     let body = chars c.args.body.now in
     let cell = stored_pair c.args.row c.args.column c.ranges.row c.ranges.column in
     let none = ap (λ (m : ModelState). value_refusal m.book sheet c.args.row c.args.column) c.self.view_is ∙ c.requires.allowed in
-    let entry = c.index-as_slice-sheet.result in
-    let there = entry_at c.self.inside c.self.invariant.book sheet place none c.as_slice.result.now entry c.as_slice.ensures.sheets c.index-as_slice-sheet.is in
+    let entry = c.as_ref-worksheet.result.now in
+    let there = entry_at c.self.inside c.self.invariant.book sheet place none c.as_slice.result.now entry c.as_slice.ensures.sheets (read_boxed c.as_slice.result.now sheet c.as_ref-worksheet.ensures c.index-as_slice-sheet.is) in
     let shown =
     subst (λ o. IfSome o (λ (s : Sheet). c.args.shown ≡ shown_style s c.args.row c.args.column)) (slice_get-map sheet_of c.self.inside.contents.sheets sheet ∙ ap (option_map sheet_of) there)
     (subst (λ (m : ModelState). Shows m.book sheet c.args.row c.args.column c.args.shown) (sym c.self.view_is) c.requires.shows) in
@@ -98,8 +99,8 @@ returns-in-Ok-clause-written c =
     let body = chars c.args.body.now in
     let cell = stored_pair c.args.row c.args.column c.ranges.row c.ranges.column in
     let none = ap (λ (m : ModelState). value_refusal m.book sheet c.args.row c.args.column) c.self.view_is ∙ c.requires.allowed in
-    let entry = c.index-as_slice-sheet.result in
-    let there = entry_at c.self.inside c.self.invariant.book sheet place none c.as_slice.result.now entry c.as_slice.ensures.sheets c.index-as_slice-sheet.is in
+    let entry = c.as_ref-worksheet.result.now in
+    let there = entry_at c.self.inside c.self.invariant.book sheet place none c.as_slice.result.now entry c.as_slice.ensures.sheets (read_boxed c.as_slice.result.now sheet c.as_ref-worksheet.ensures c.index-as_slice-sheet.is) in
     let shown =
     subst (λ o. IfSome o (λ (s : Sheet). c.args.shown ≡ shown_style s c.args.row c.args.column)) (slice_get-map sheet_of c.self.inside.contents.sheets sheet ∙ ap (option_map sheet_of) there)
     (subst (λ (m : ModelState). Shows m.book sheet c.args.row c.args.column c.args.shown) (sym c.self.view_is) c.requires.shows) in
@@ -135,8 +136,8 @@ returns-in-Ok-clause-whole c =
     let body = chars c.args.body.now in
     let cell = stored_pair c.args.row c.args.column c.ranges.row c.ranges.column in
     let none = ap (λ (m : ModelState). value_refusal m.book sheet c.args.row c.args.column) c.self.view_is ∙ c.requires.allowed in
-    let entry = c.index-as_slice-sheet.result in
-    let there = entry_at c.self.inside c.self.invariant.book sheet place none c.as_slice.result.now entry c.as_slice.ensures.sheets c.index-as_slice-sheet.is in
+    let entry = c.as_ref-worksheet.result.now in
+    let there = entry_at c.self.inside c.self.invariant.book sheet place none c.as_slice.result.now entry c.as_slice.ensures.sheets (read_boxed c.as_slice.result.now sheet c.as_ref-worksheet.ensures c.index-as_slice-sheet.is) in
     ap (λ (ws : List HeldSheet). slice_get (map (λ (s : HeldSheet). s.pool.is_whole) ws) sheet) c.in-Ok.ensures.ok.3 ∙ whole_at _ (λ s. refl) sheet c.self.inside.contents.sheets entry there
 
 pub invariant_of-self-in-Err : goal.invariant_of-self-in-Err

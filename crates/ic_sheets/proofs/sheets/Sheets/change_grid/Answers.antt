@@ -2,7 +2,7 @@ use Rattle.std.proofs.Common.{◌<◌, ◌∙◌, ap, get_or, length, refl, subs
 use Rattle.std.proofs.lemmas.Option.{slice_get_read}
 use Rattle.ic_laws.specs.CoreStep.{updated_at}
 use Rattle.ic_sheets.proofs.DanglingLemmas.{dangling_over, left_alone, length_over, listed_at}
-use Rattle.ic_sheets.proofs.IndexLemmas.{set_updated}
+use Rattle.ic_sheets.proofs.IndexLemmas.{read_boxed, set_updated}
 use Rattle.ic_sheets.proofs.MentionerLemmas.{known_like}
 use Rattle.ic_sheets.proofs.PlaceLemmas.{placed_same}
 use Rattle.ic_sheets.proofs.WriteLemmas.{IsLike, kept_over, seen_over}
@@ -12,12 +12,12 @@ use Rattle.ic_sheets.proofs.sheets.Sheets.change_grid.Goals as goal
 
 pub invariant_of-self : goal.invariant_of-self
 invariant_of-self g c =
-    let s = c.index_mut-sheet.result.now in
+    let s = c.as_mut-sheet.result.now in
     let after : Sheet = record s { grid = c.change.new.arg2 } in
     let like : IsLike s after = record { id = refl; name = refl } in
     let sheets = c.self.inside.list.items in
     let now = c.self.inside.dangling.items in
-    let read = c.index_mut-sheet.ensures.value in
+    let read = (read_boxed c.self.inside.list.items c.args.index c.as_mut-sheet.ensures.value c.index_mut.ensures.value) in
     let lt : c.args.index < length sheets = subst (λ xs. c.args.index < length xs) (sym c.self.view_is) c.requires.within in
     let differ = c.self.invariant.0.ids_differ in (
       kept_over c.self.inside.greatest sheets c.args.index s after c.self.invariant.0 read like,
@@ -30,10 +30,10 @@ invariant_of-self g c =
 
 pub returns : goal.returns
 returns g c =
-    let s = c.index_mut-sheet.result.now in
+    let s = c.as_mut-sheet.result.now in
     let put : Sheet → Sheet = λ x. record x { grid = c.change.new.arg2 } in
     let sheets = c.self.inside.list.items in
-    let read = c.index_mut-sheet.ensures.value in
+    let read = (read_boxed c.self.inside.list.items c.args.index c.as_mut-sheet.ensures.value c.index_mut.ensures.value) in
     record {
       sheet = s;
       after = c.change.new.arg2;

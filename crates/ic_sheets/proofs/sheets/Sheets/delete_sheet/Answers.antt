@@ -1,6 +1,7 @@
 use Rattle.std.proofs.Common.{◌<◌, ◌∙◌, ap, get_or, length, remove, subst, sym}
 use Rattle.std.proofs.lemmas.List.{length-map}
 use Rattle.ic_laws.specs.Changes.{sheet_gone}
+use Rattle.ic_sheets.proofs.IndexLemmas.{read_boxed}
 use Rattle.ic_sheets.proofs.KeptLemmas.{finds_same}
 use Rattle.ic_sheets.proofs.OwnLemmas.{deleted_looks_up, deleted_made, same_ids, same_names}
 use Rattle.ic_sheets.proofs.RewritingLemmas.{read_there}
@@ -19,18 +20,18 @@ take_out-requires-clause-within g c =
 
 pub returns-clause-ok : goal.returns-clause-ok
 returns-clause-ok g c = λ sheet at.
-    let s = c.index-sheet.result.now in
+    let s = c.as_ref-sheet.result.now in
     deleted_made (sheet_gone (g.F.Finder.scene c.args.definitions.now) sheet.id sheet.name) c.in_ok-prepared.prepared.items c.args.self.now c.take_out.new.self c.args.index
     (subst (λ (s : Sheet). Makes (sheet_gone (g.F.Finder.scene c.args.definitions.now) s.id s.name) c.in_ok-prepared.prepared.items c.args.self.now)
-    (read_there c.args.self.now c.args.index s sheet c.requires.within (c.index-sheet.ensures ∙ ap (λ xs. get_or xs c.args.index s) c.self.view_is) at)
+    (read_there c.args.self.now c.args.index s sheet c.requires.within ((read_boxed c.self.inside.list.items c.args.index c.as_ref-sheet.ensures c.index.ensures) ∙ ap (λ xs. get_or xs c.args.index s) c.self.view_is) at)
     (subst (λ n. Makes (sheet_gone (g.F.Finder.scene c.args.definitions.now) s.id n) c.in_ok-prepared.prepared.items c.args.self.now) c.as_str-name.ensures.characters c.in_ok-prepared.ensures))
     (c.take_out.ensures.left ∙ ap (λ xs. remove xs c.args.index) c.apply.ensures)
 
 pub returns-clause-looks_up : goal.returns-clause-looks_up
 returns-clause-looks_up g c = λ sheet at.
-    let s = c.index-sheet.result.now in
+    let s = c.as_ref-sheet.result.now in
     deleted_looks_up (sheet_gone (g.F.Finder.scene c.args.definitions.now) sheet.id sheet.name) c.in_ok-prepared.prepared.items c.args.self.now c.take_out.new.self c.args.index
     (subst (λ (s : Sheet). Makes (sheet_gone (g.F.Finder.scene c.args.definitions.now) s.id s.name) c.in_ok-prepared.prepared.items c.args.self.now)
-    (read_there c.args.self.now c.args.index s sheet c.requires.within (c.index-sheet.ensures ∙ ap (λ xs. get_or xs c.args.index s) c.self.view_is) at)
+    (read_there c.args.self.now c.args.index s sheet c.requires.within ((read_boxed c.self.inside.list.items c.args.index c.as_ref-sheet.ensures c.index.ensures) ∙ ap (λ xs. get_or xs c.args.index s) c.self.view_is) at)
     (subst (λ n. Makes (sheet_gone (g.F.Finder.scene c.args.definitions.now) s.id n) c.in_ok-prepared.prepared.items c.args.self.now) c.as_str-name.ensures.characters c.in_ok-prepared.ensures))
     (c.take_out.ensures.left ∙ ap (λ xs. remove xs c.args.index) c.apply.ensures)

@@ -1,13 +1,11 @@
-use Rattle.std.proofs.Common.{◌≡◌, ◌<◌, ◌∙◌, ap, sym, subst, arith, length, nat_eq}
-use Rattle.std.specs.List.{IsDistinct}
+use Rattle.std.proofs.Common.{◌≡◌, ◌<◌, ◌∙◌, ap, sym, subst, arith, length}
 use Rattle.ic_laws.specs.CoreStep.{moved}
 use Rattle.ic_sheets.proofs.DanglingLemmas.{dangling_moved}
 use Rattle.ic_sheets.proofs.KeptLemmas.{finds_moved, kept_moved, length_moved, moved_is, taken}
 use Rattle.ic_sheets.proofs.MentionerLemmas.{known_moved}
-use Rattle.ic_sheets.proofs.PlaceLemmas.{moved_follow}
-use Rattle.ic_sheets.proofs.SearchLemmas.{ids}
+use Rattle.ic_sheets.proofs.PlaceLemmas.{placed_moved}
 use Rattle.ic_sheets.proofs.ShiftLemmas.{whole_back}
-use Rattle.ic_sheets.specs.Index.{AreAtIndexes, FindsSheets, Follow, moved_index}
+use Rattle.ic_sheets.specs.Index.{FindsSheets}
 use Rattle.ic_sheets.proofs.sheets.Sheets.move_to.Goals as goal
 
 pub shift-requires-clause-from : goal.shift-requires-clause-from
@@ -15,55 +13,6 @@ shift-requires-clause-from c = subst (λ xs. c.args.from < length xs) (sym (c.de
 
 pub shift-requires-clause-to : goal.shift-requires-clause-to
 shift-requires-clause-to c = subst (λ xs. c.args.to < length xs) (sym (c.deref_mut.ensures.value ∙ c.self.view_is)) c.requires.to
-
-pub move_indexes-requires-clause-from : goal.move_indexes-requires-clause-from
-move_indexes-requires-clause-from c =
-    let sheets = c.self.inside.list.items in
-    let lt : c.args.from < length sheets = subst (λ xs. c.args.from < length xs) (sym c.self.view_is) c.requires.from in
-    let within : c.args.to < length sheets = subst (λ xs. c.args.to < length xs) (sym c.self.view_is) c.requires.to in
-    let one = taken sheets c.args.from lt in
-    let is : c.shift.new.sheets ≡ moved c.args.from c.args.to sheets = c.shift.ensures ∙ ap (moved c.args.from c.args.to) c.deref_mut.ensures.value in
-    let count = length_moved sheets c.args.from c.args.to lt within in
-    let list = whole_back c.self.inside.list.len sheets c.shift.new.sheets (ap length is ∙ count) c.self.inside.list.ok.0 ∙ is in
-    let put = list ∙ sym (moved_is sheets c.args.from c.args.to one.sheet lt one.read) in
-    subst (λ n. c.args.from < n) (sym (ap length (c.deref.ensures.value ∙ list) ∙ count)) lt
-
-pub move_indexes-requires-clause-to : goal.move_indexes-requires-clause-to
-move_indexes-requires-clause-to c =
-    let sheets = c.self.inside.list.items in
-    let lt : c.args.from < length sheets = subst (λ xs. c.args.from < length xs) (sym c.self.view_is) c.requires.from in
-    let within : c.args.to < length sheets = subst (λ xs. c.args.to < length xs) (sym c.self.view_is) c.requires.to in
-    let one = taken sheets c.args.from lt in
-    let is : c.shift.new.sheets ≡ moved c.args.from c.args.to sheets = c.shift.ensures ∙ ap (moved c.args.from c.args.to) c.deref_mut.ensures.value in
-    let count = length_moved sheets c.args.from c.args.to lt within in
-    let list = whole_back c.self.inside.list.len sheets c.shift.new.sheets (ap length is ∙ count) c.self.inside.list.ok.0 ∙ is in
-    let put = list ∙ sym (moved_is sheets c.args.from c.args.to one.sheet lt one.read) in
-    subst (λ n. c.args.to < n) (sym (ap length (c.deref.ensures.value ∙ list) ∙ count)) within
-
-pub move_indexes-requires-clause-differ : goal.move_indexes-requires-clause-differ
-move_indexes-requires-clause-differ c =
-    let sheets = c.self.inside.list.items in
-    let lt : c.args.from < length sheets = subst (λ xs. c.args.from < length xs) (sym c.self.view_is) c.requires.from in
-    let within : c.args.to < length sheets = subst (λ xs. c.args.to < length xs) (sym c.self.view_is) c.requires.to in
-    let one = taken sheets c.args.from lt in
-    let is : c.shift.new.sheets ≡ moved c.args.from c.args.to sheets = c.shift.ensures ∙ ap (moved c.args.from c.args.to) c.deref_mut.ensures.value in
-    let count = length_moved sheets c.args.from c.args.to lt within in
-    let list = whole_back c.self.inside.list.len sheets c.shift.new.sheets (ap length is ∙ count) c.self.inside.list.ok.0 ∙ is in
-    let put = list ∙ sym (moved_is sheets c.args.from c.args.to one.sheet lt one.read) in
-    subst (λ xs. IsDistinct nat_eq (ids xs)) (sym c.deref.ensures.value) (kept_moved c.self.inside.greatest sheets _ c.args.from c.args.to one.sheet c.self.invariant.0 lt one.read put).ids_differ
-
-pub move_indexes-requires-clause-follow : goal.move_indexes-requires-clause-follow
-move_indexes-requires-clause-follow c =
-    let sheets = c.self.inside.list.items in
-    let lt : c.args.from < length sheets = subst (λ xs. c.args.from < length xs) (sym c.self.view_is) c.requires.from in
-    let within : c.args.to < length sheets = subst (λ xs. c.args.to < length xs) (sym c.self.view_is) c.requires.to in
-    let one = taken sheets c.args.from lt in
-    let is : c.shift.new.sheets ≡ moved c.args.from c.args.to sheets = c.shift.ensures ∙ ap (moved c.args.from c.args.to) c.deref_mut.ensures.value in
-    let count = length_moved sheets c.args.from c.args.to lt within in
-    let list = whole_back c.self.inside.list.len sheets c.shift.new.sheets (ap length is ∙ count) c.self.inside.list.ok.0 ∙ is in
-    let put = list ∙ sym (moved_is sheets c.args.from c.args.to one.sheet lt one.read) in
-    subst (Follow (moved_index c.args.from c.args.to) c.self.inside.indexes) (sym c.deref.ensures.value)
-    (moved_follow sheets c.args.from one.sheet c.self.invariant.0.ids_differ lt one.read c.self.inside.indexes _ c.args.to c.self.invariant.1 within put)
 
 pub invariant_of-self : goal.invariant_of-self
 invariant_of-self c =
@@ -76,7 +25,7 @@ invariant_of-self c =
     let list = whole_back c.self.inside.list.len sheets c.shift.new.sheets (ap length is ∙ count) c.self.inside.list.ok.0 ∙ is in
     let put = list ∙ sym (moved_is sheets c.args.from c.args.to one.sheet lt one.read) in (
       kept_moved c.self.inside.greatest sheets _ c.args.from c.args.to one.sheet c.self.invariant.0 lt one.read put,
-      subst (AreAtIndexes c.move_indexes.new.indexes) c.deref.ensures.value c.move_indexes.ensures,
+      placed_moved sheets c.args.from one.sheet c.self.invariant.0.ids_differ lt one.read c.self.inside.indexes c.follow.new.self _ c.args.to c.self.invariant.1 within put c.follow.ensures,
       dangling_moved c.self.inside.dangling.items sheets c.args.from one.sheet c.self.invariant.2 c.self.invariant.0.ids_differ lt one.read _ c.args.to put,
       omega (arith, c.self.invariant.3, ap length list, count),
       known_moved c.self.inside.mentioners sheets _ c.args.from c.args.to one.sheet c.self.invariant.4 lt one.read put,

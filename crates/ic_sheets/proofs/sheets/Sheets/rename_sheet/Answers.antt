@@ -1,6 +1,7 @@
 use Rattle.std.proofs.Common.{Some, chars, sym, subst, ap, get_or, ◌∙◌}
 use Rattle.ic_laws.specs.Changes.{sheet_named}
 use Rattle.ic_pool.proofs.ChangeLemmas.{naming_spares_found}
+use Rattle.ic_sheets.proofs.IndexLemmas.{read_boxed}
 use Rattle.ic_sheets.proofs.OwnLemmas.{own_fits_called, renamed_looks_up, renamed_made}
 use Rattle.ic_sheets.proofs.RewritingLemmas.{read_there}
 use Rattle.ic_sheets.specs.Rewriting.{FitOwn, Makes}
@@ -11,7 +12,7 @@ use Rattle.ic_sheets.proofs.SearchLemmas.{ids, names}
 use Rattle.ic_sheets.proofs.sheets.Sheets.rename_sheet.Goals as goal
 
 pub prepare_dangling-requires : goal.prepare_dangling-requires
-prepare_dangling-requires g c = λ id. naming_spares_found (g.F.Finder.scene c.args.definitions.now) c.index.result.now.id (chars c.args.name.now) (Some id)
+prepare_dangling-requires g c = λ id. naming_spares_found (g.F.Finder.scene c.args.definitions.now) c.as_ref.result.now.id (chars c.args.name.now) (Some id)
 
 pub apply-requires : goal.apply-requires
 apply-requires g c =
@@ -21,14 +22,14 @@ pub returns-clause-ok : goal.returns-clause-ok
 returns-clause-ok g c = λ sheet at.
     renamed_made (sheet_named (g.F.Finder.scene c.args.definitions.now) sheet.id (chars c.args.name.now)) c.in_ok-prepared.prepared.items c.args.self.now
     (subst (λ (s : Sheet). Makes (sheet_named (g.F.Finder.scene c.args.definitions.now) s.id (chars c.args.name.now)) c.in_ok-prepared.prepared.items c.args.self.now)
-    (read_there c.args.self.now c.args.index c.index.result.now sheet c.requires.within (c.index.ensures ∙ ap (λ xs. get_or xs c.args.index c.index.result.now) c.self.view_is) at) c.in_ok-prepared.ensures)
+    (read_there c.args.self.now c.args.index c.as_ref.result.now sheet c.requires.within ((read_boxed c.self.inside.list.items c.args.index c.as_ref.ensures c.index.ensures) ∙ ap (λ xs. get_or xs c.args.index c.as_ref.result.now) c.self.view_is) at) c.in_ok-prepared.ensures)
     c.args.index (chars c.args.name.now) c.rename_leaving_formulas.new.self c.apply.new.self c.in_ok-rename_leaving_formulas.ensures.ok c.apply.ensures
 
 pub returns-clause-looks_up : goal.returns-clause-looks_up
 returns-clause-looks_up g c = λ sheet at.
     renamed_looks_up (sheet_named (g.F.Finder.scene c.args.definitions.now) sheet.id (chars c.args.name.now)) c.in_ok-prepared.prepared.items c.args.self.now
     (subst (λ (s : Sheet). Makes (sheet_named (g.F.Finder.scene c.args.definitions.now) s.id (chars c.args.name.now)) c.in_ok-prepared.prepared.items c.args.self.now)
-    (read_there c.args.self.now c.args.index c.index.result.now sheet c.requires.within (c.index.ensures ∙ ap (λ xs. get_or xs c.args.index c.index.result.now) c.self.view_is) at) c.in_ok-prepared.ensures)
+    (read_there c.args.self.now c.args.index c.as_ref.result.now sheet c.requires.within ((read_boxed c.self.inside.list.items c.args.index c.as_ref.ensures c.index.ensures) ∙ ap (λ xs. get_or xs c.args.index c.as_ref.result.now) c.self.view_is) at) c.in_ok-prepared.ensures)
     c.args.index (chars c.args.name.now) c.rename_leaving_formulas.new.self c.apply.new.self c.in_ok-rename_leaving_formulas.ensures.ok c.apply.ensures
 
 pub returns-clause-finds : goal.returns-clause-finds

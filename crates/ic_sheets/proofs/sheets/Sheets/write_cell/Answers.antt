@@ -3,7 +3,7 @@ use Rattle.ic_laws.specs.CoreBook.{CellPlace}
 use Rattle.ic_laws.specs.CoreStep.{updated_at}
 use Rattle.ic_sheets.proofs.CellLemmas.{stored_pair}
 use Rattle.ic_sheets.proofs.DanglingLemmas.{dangling_over, left_alone, length_over, listed_at}
-use Rattle.ic_sheets.proofs.IndexLemmas.{set_updated}
+use Rattle.ic_sheets.proofs.IndexLemmas.{read_boxed, set_updated}
 use Rattle.ic_sheets.proofs.MentionerLemmas.{known_like}
 use Rattle.ic_sheets.proofs.PlaceLemmas.{placed_same}
 use Rattle.ic_sheets.proofs.WriteLemmas.{IsLike, at_ok, kept_over, not_ok, seen_over}
@@ -16,12 +16,12 @@ use Rattle.ic_sheets.proofs.sheets.Sheets.write_cell.Goals.{in-Ok, in-Err}
 
 pub invariant_of-self : goal.invariant_of-self
 invariant_of-self c =
-    let s = c.index_mut-sheet.result.now in
+    let s = c.as_mut-sheet.result.now in
     let after : Sheet = record s { grid = c.write.new.self } in
     let like : IsLike s after = record { id = refl; name = refl } in
     let sheets = c.self.inside.list.items in
     let now = c.self.inside.dangling.items in
-    let read = c.index_mut-sheet.ensures.value in
+    let read = (read_boxed c.self.inside.list.items c.args.index c.as_mut-sheet.ensures.value c.index_mut.ensures.value) in
     let lt : c.args.index < length sheets = subst (λ xs. c.args.index < length xs) (sym c.self.view_is) c.requires.within in
     let differ = c.self.invariant.0.ids_differ in (
       kept_over c.self.inside.greatest sheets c.args.index s after c.self.invariant.0 read like,
@@ -34,13 +34,13 @@ invariant_of-self c =
 
 pub returns-clause-ok : goal.returns-clause-ok
 returns-clause-ok c =
-    let s = c.index_mut-sheet.result.now in
+    let s = c.as_mut-sheet.result.now in
     let sheets = c.self.inside.list.items in
     let put : Sheet → Sheet = λ x. record x { grid = with_cell_in (to_z w32 (of_z w32 c.args.row), to_z w32 (of_z w32 c.args.column)) c.args.cell x.grid } in
     elim c.match-write.branch [
       | in-Ok w ↦
           at_ok c.match-write.result _
-          (ap (λ (g : Grid). slice_set sheets c.args.index (record s { grid = g })) w.in-Ok.ensures.ok ∙ set_updated put sheets c.args.index s c.index_mut-sheet.ensures.value ∙ ap (updated_at put c.args.index) c.self.view_is
+          (ap (λ (g : Grid). slice_set sheets c.args.index (record s { grid = g })) w.in-Ok.ensures.ok ∙ set_updated put sheets c.args.index s (read_boxed c.self.inside.list.items c.args.index c.as_mut-sheet.ensures.value c.index_mut.ensures.value) ∙ ap (updated_at put c.args.index) c.self.view_is
           ∙ ap (λ (p : CellPlace). updated_at (λ (x : Sheet). record x { grid = with_cell_in p c.args.cell x.grid }) c.args.index c.args.self.now) (stored_pair c.args.row c.args.column c.ranges.row c.ranges.column))
       | in-Err w ↦ not_ok c.match-write.result _ w.result-is
     ]

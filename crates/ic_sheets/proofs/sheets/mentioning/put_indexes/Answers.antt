@@ -1,10 +1,10 @@
 use Rattle.std.proofs.Common.{◌≡◌, ◌∙◌, Some, None, ap, get_or, inl, inr, subst, sym, true}
-use Rattle.std.specs.BTreeMap.{get}
 use Rattle.std.specs.BTreeSet.{contains}
 use Rattle.std.specs.Ordering.{nat_cmp}
 use Rattle.std.specs.Prelude.{nat_eq}
 use Rattle.std.proofs.lemmas.Bool.{eqb-true}
 use Rattle.ic_pool.proofs.PlaceLemmas.{any_more, still_in}
+use Rattle.ic_sheets.specs.Spots.{index_at}
 use Rattle.ic_sheets.proofs.sheets.mentioning.put_indexes.Goals as goal
 use Rattle.ic_sheets.proofs.sheets.mentioning.put_indexes.Goals.{in-Some+in_ok-insert, in_default}
 
@@ -22,7 +22,7 @@ loop-id-preserved c =
                 elim (any_more (nat_eq id) ids i c.loop-id-test.true e) [
                   | inl before ↦ subst (λ s. contains nat_cmp s index ≡ true) (sym w.about-is) (still_in c.loop-id.about after w.in-Some.index index w.in_ok-insert.ensures.updates (c.loop-id.invariant.put id index before at))
                   | inr same ↦
-                      let its : Some w.in-Some.index ≡ Some index = sym w.in-Some.is ∙ c.index_in.ensures ∙ ap (get nat_cmp indexes) (sym (eqb-true id item same)) ∙ at in
+                      let its : Some w.in-Some.index ≡ Some index = sym w.in-Some.is ∙ c.index_in.ensures ∙ ap (λ k. index_at k indexes.list.items) (sym (eqb-true id item same)) ∙ at in
                       let is : w.in-Some.index ≡ index = cc in
                       subst (λ s. contains nat_cmp s index ≡ true) (sym w.about-is) (subst (λ k. contains nat_cmp after k ≡ true) is w.in_ok-insert.ensures.updates.1)
                 ];
@@ -33,7 +33,7 @@ loop-id-preserved c =
             put = λ id index e at.
                 elim (any_more (nat_eq id) ids i c.loop-id-test.true e) [
                   | inl before ↦ subst (λ s. contains nat_cmp s index ≡ true) (sym w.about-is) (c.loop-id.invariant.put id index before at)
-                  | inr same ↦ let none : None ≡ Some index = sym w.in_default.is ∙ c.index_in.ensures ∙ ap (get nat_cmp indexes) (sym (eqb-true id item same)) ∙ at in absurd (cc)
+                  | inr same ↦ let none : None ≡ Some index = sym w.in_default.is ∙ c.index_in.ensures ∙ ap (λ k. index_at k indexes.list.items) (sym (eqb-true id item same)) ∙ at in absurd (cc)
                 ];
             kept = λ index e. subst (λ s. contains nat_cmp s index ≡ true) (sym w.about-is) (c.loop-id.invariant.kept index e);
           }

@@ -1,0 +1,165 @@
+//! At which index a sheet stands, found by its id. All is in one list, so that it is gone over at once where many sheets
+//! come to stand elsewhere.
+ghost use Rattle.std.specs.Prelude.{◌≡◌, ◌<◌, ◌≤◌, ℕ, [], MatchOption, None, OnErr, OnOk, Some, length, map, nat_eq, option_map, vec_capacity, vec_len, if◌then◌else◌};
+ghost use Rattle.std.specs.List.{AllWithin, HoldsAt};
+ghost use Rattle.ic_laws.specs.Greatest.{greatest};
+ghost use Rattle.ic_sheets.specs.Spots.{Rise, Rise-prop, index_at, lowered, moved_index, with_indexes};
+
+use ic_laws::OutOfMemory;
+use std::alloc::Global;
+
+/// A sheet's id, and the index at which it stands, from 0.
+#[derive(Clone, Copy)]
+pub struct Spot {
+    id: u32,
+    index: usize,
+}
+
+/// The indexes of sheets by their ids, in the order of the ids.
+#[derive(Drop)]
+pub struct Spots {
+    list: Vec<Spot>,
+    ghost rise: { Rise 0 list.items } by { Rise-prop 0 list.items },
+}
+
+impl Spots {
+    /// None.
+    pub fn new(alloc: Global) -> Spots
+        ensures { result.list.items ≡ [] }
+    {
+        Spots {
+            list: Vec::new(alloc),
+        }
+    }
+
+    /// The index at this id. None exactly where there is none.
+    pub fn index_of(&self, id: u32) -> Option<usize>
+        ensures { result ≡ index_at id self.now.list.items }
+    {
+        let place = found(&self.list, id)?;
+        Some(self.list[place].index)
+    }
+
+    /// The greatest id, 0 where there is none.
+    pub fn greatest_id(&self) -> u32
+        ensures { result ≡ greatest (map (λ s. s.id) self.now.list.items) }
+    {
+        match self.list.last() {
+            Some(spot) => spot.id,
+            None => 0,
+        }
+    }
+
+    /// Makes room for one more. `OutOfMemory` changes nothing.
+    pub fn reserve(&mut self) -> Result<(), OutOfMemory>
+        ensures kept { self.new.list.items ≡ self.old.list.items }
+        ensures ok { OnOk result (vec_len self.new.list < vec_capacity self.new.list) }
+    {
+        self.list.reserve(1)?;
+        Ok(())
+    }
+
+    /// Puts an index in at an id that has none. There is room for it.
+    pub fn put(&mut self, id: u32, index: usize)
+        requires absent { index_at id self.old.list.items ≡ None }
+        requires room { vec_len self.old.list < vec_capacity self.old.list }
+        ensures { (q : ℕ) → index_at q self.new.list.items
+            ≡ (if nat_eq id q then Some index else index_at q self.old.list.items) }
+    {
+        let place = place_of(&self.list, id);
+        let _ = self.list.insert(place, Spot { id, index });
+    }
+
+    /// Takes the index at an id out, where there is one.
+    pub fn take_out(&mut self, id: u32)
+        ensures { (q : ℕ) → index_at q self.new.list.items
+            ≡ (if nat_eq id q then None else index_at q self.old.list.items) }
+    {
+        if let Some(place) = found(&self.list, id) {
+            self.list.remove(place);
+        }
+    }
+
+    /// All indexes after this one are lowered by one.
+    pub fn lower(&mut self, index: usize)
+        ensures { (id : ℕ) → index_at id self.new.list.items
+            ≡ option_map (lowered index) (index_at id self.old.list.items) }
+    {
+        lower_all(&mut self.list, index);
+    }
+
+    /// All indexes follow the sheet that is put from one to another.
+    pub fn follow(&mut self, from: usize, to: usize)
+        ensures { (id : ℕ) → index_at id self.new.list.items
+            ≡ option_map (moved_index from to) (index_at id self.old.list.items) }
+    {
+        move_all(&mut self.list, from, to);
+    }
+}
+
+/// How many have a lower id.
+fn place_of(spots: &[Spot], id: u32) -> usize
+    requires { Rise 0 spots.now }
+    ensures within { result ≤ length spots.now }
+    ensures below { AllWithin (λ s. s.id < id) spots.now 0 result }
+    ensures above { AllWithin (λ s. id ≤ s.id) spots.now result (length spots.now) }
+{
+    spots.partition_point(|spot| spot.id < id)
+}
+
+/// The one at this id. None exactly where there is none.
+fn found(spots: &[Spot], id: u32) -> Option<usize>
+    requires { Rise 0 spots.now }
+    ensures { MatchOption result (index_at id spots.now ≡ None)
+        (λ k. (k < length spots.now) × HoldsAt (λ s. s.id ≡ id) spots.now k) }
+{
+    let place = place_of(spots, id);
+    if place == spots.len() {
+        return None;
+    }
+    if spots[place].id == id {
+        Some(place)
+    } else {
+        None
+    }
+}
+
+/// All indexes after this one are lowered by one.
+fn lower_all(spots: &mut Vec<Spot>, index: usize)
+    ensures { spots.new.items ≡ with_indexes (lowered index) spots.old.items }
+{
+    for place in 0..spots.len() {
+        let spot = &mut spots[place];
+        spot.index = lowered(spot.index, index);
+    }
+}
+
+/// All indexes follow the sheet that is put from one to another.
+fn move_all(spots: &mut Vec<Spot>, from: usize, to: usize)
+    ensures { spots.new.items ≡ with_indexes (moved_index from to) spots.old.items }
+{
+    for place in 0..spots.len() {
+        let spot = &mut spots[place];
+        spot.index = moved_index(spot.index, from, to);
+    }
+}
+
+/// An index, lowered by one where it is past this one.
+fn lowered(place: usize, index: usize) -> usize
+    ensures { result ≡ lowered index place }
+{
+    if place > index { place - 1 } else { place }
+}
+
+/// Where the sheet at an index stands after the one at `from` was put to `to`.
+fn moved_index(place: usize, from: usize, to: usize) -> usize
+    ensures { result ≡ moved_index from to place }
+{
+    if place == from {
+        return to;
+    }
+    if place > from {
+        return if place - 1 < to { place - 1 } else { place };
+    }
+    if place < to { place } else { place + 1 }
+}
