@@ -1,18 +1,16 @@
 -- Ids that stand among those of sheets in the same order, and how they are gathered.
-use Rattle.std.proofs.Common.{◌≡◌, ◌⊎◌, ℕ, zero, suc, ◌<◌, ◌≤◌, ◌+◌, List, [], ◌∷◌, ◌++◌, Bool, true, false, cond, ◌||◌, Option, Some, None, map, length, get_or, take, nat_eq, refl, sym, ap, ap₂, subst, ◌∙◌, arith, inl, inr}
-use Rattle.std.proofs.lemmas.Bool.{cases_Bool, eqb-true, or_parts}
-use Rattle.std.proofs.lemmas.List.{take_more}
+use Rattle.std.proofs.Common.{◌≡◌, ◌⊎◌, ℕ, zero, suc, ◌≤◌, List, [], ◌∷◌, ◌++◌, Bool, true, false, cond, ◌||◌, Some, None, take, nat_eq, refl, sym, ap, subst, ◌∙◌, arith, inl, inr}
+use Rattle.std.proofs.lemmas.Bool.{eqb-true}
 use Rattle.std.proofs.lemmas.List.Folds.{list_any-append}
 use Rattle.std.proofs.lemmas.Map.Keys.{IsDistinct-cons, IsDistinct-head, IsDistinct-tail, sorted_head}
 use Rattle.std.specs.BTreeMap.{is_at}
-use Rattle.std.specs.BTreeSet.{BTreeSet, contains}
-use Rattle.std.specs.Cmp.{nat_eq_equiv, ranked}
+use Rattle.std.specs.BTreeSet.{BTreeSet}
+use Rattle.std.specs.Cmp.{nat_eq_equiv, ranked, unsigned_tied}
 use Rattle.std.specs.List.{AllByRecursion, IsDistinct, list_any, slice_get}
 use Rattle.std.specs.List.Sorted.{IsStrictlySortedBy}
 use Rattle.std.specs.Ordering.{nat_cmp}
 use Rattle.std.specs.declared.cmp.Ordering.TheVariants.{Less}
 use Rattle.ic_sheets.proofs.DanglingLemmas.{none_apart, or_true}
-use Rattle.ic_sheets.proofs.PlaceLemmas.{same_number, some_apart}
 use Rattle.ic_sheets.proofs.SearchLemmas.{ids}
 use Rattle.ic_sheets.specs.Index.{is_listed, is_part}
 use Rattle.ic_sheets.specs.declared.sheet.Sheet.{Sheet}
@@ -153,7 +151,7 @@ module _ (sheets : List Sheet) (all left ks now : List ℕ) (k : ℕ) (begins : 
     where
       step : (b : Bool) → nat_eq q k ≡ b → (is_at (nat_cmp q) k || is_key q ks) ≡ true → (nat_eq q k ≡ true) ⊎ (is_key q ks ≡ true)
       step true is e = inl is
-      step false is e = inr (sym (ap (λ b. b || is_key q ks) (same_number q k ∙ is)) ∙ e)
+      step false is e = inr (sym (ap (λ b. b || is_key q ks) (unsigned_tied q k ∙ is)) ∙ e)
 
   -- there is a sheet at the first of them
   pub one_gathered : (after : List ℕ) (s : Sheet) → slice_get sheets k ≡ Some s → after ≡ now ++ s.id ∷ [] → GatheredSoFar sheets all ks after

@@ -54,15 +54,6 @@ first_at id sheets place e = ap (option_and_then (slice_get sheets)) (e ∙ sym 
 
 -- ---- the look-up
 
-pub same_number : (k q : ℕ) → is_eq (nat_cmp k q) ≡ nat_eq k q
-same_number k q = step (nat_lt k q) refl (nat_eq k q) refl
-  where
-    step : (b : Bool) → nat_lt k q ≡ b → (c : Bool) → nat_eq k q ≡ c → is_eq (cond b Less (cond c Equal Greater)) ≡ c
-    step true lt true e = absurd (omega (arith, ltb-true k q lt, eqb-true k q e))
-    step true lt false e = refl
-    step false lt true e = refl
-    step false lt false e = refl
-
 pub placed_empty : (indexes : Spots) (sheets : List Sheet) → indexes.list.items ≡ [] → sheets ≡ [] → AreAtIndexes indexes sheets
 placed_empty indexes sheets empty none = subst (AreAtIndexes indexes) (sym none) (record { finds = λ id. ap (index_at id) empty })
 

@@ -1,6 +1,6 @@
 -- What was prepared for sheets whose formulas a rule makes anew, and what it makes of them.
-use Rattle.std.proofs.Common.{◌≡◌, ℕ, List, [], ◌∷◌, Bool, true, false, Option, Some, None, ◌&&◌, ap, ap₂, length, map, nat_eq, not, refl, subst, sym, ◌∙◌}
-use Rattle.std.specs.List.{AllByRecursion, IsDistinct, list_any, slice_get}
+use Rattle.std.proofs.Common.{◌≡◌, ℕ, List, [], ◌∷◌, true, false, Option, Some, None, ◌&&◌, ap, ap₂, map, nat_eq, refl, subst, sym, ◌∙◌}
+use Rattle.std.specs.List.{AllByRecursion, IsDistinct, list_any}
 use Rattle.std.specs.Option.{unwrap_or}
 use Rattle.std.proofs.lemmas.Simd.{map-map}
 use Rattle.ic_laws.proofs.core.Lists.{none_passes}

@@ -1,5 +1,5 @@
 use Rattle.std.proofs.Common.{◌≡◌, ◌∙◌, None, Some, ap, arith, subst, sym, refl}
-use Rattle.std.specs.List.{IsDistinct, slice_get}
+use Rattle.std.specs.List.{IsDistinct}
 use Rattle.std.specs.Prelude.{IfSome, nat_eq}
 use Rattle.ic_pool.specs.Rewrites.{FitsPool}
 use Rattle.ic_sheets.proofs.IndexLemmas.{set_updated}

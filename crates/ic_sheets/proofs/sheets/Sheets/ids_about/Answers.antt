@@ -1,13 +1,10 @@
-use Rattle.std.proofs.Common.{◌≡◌, ◌∙◌, ap, map, Some, subst, sym, true, ℕ}
+use Rattle.std.proofs.Common.{◌∙◌, ap, subst, sym}
 use Rattle.std.proofs.lemmas.Result.{IfOk-weaker}
-use Rattle.std.specs.BTreeSet.{contains}
 use Rattle.std.specs.List.{slice_get}
-use Rattle.std.specs.Ordering.{nat_cmp}
 use Rattle.ic_sheets.proofs.MentionerLemmas.{all_about, both_ok, known_about}
 use Rattle.ic_sheets.proofs.SearchLemmas.{ids}
-use Rattle.ic_sheets.specs.Index.{is_listed, is_part}
+use Rattle.ic_sheets.specs.Index.{is_part}
 use Rattle.ic_sheets.specs.Mentioners.{AreAbout}
-use Rattle.ic_sheets.specs.declared.sheet.Sheet.{Sheet}
 use Rattle.ic_sheets.proofs.sheets.Sheets.ids_about.Goals as goal
 
 pub returns-then-not-has_all : goal.returns-then-not-has_all

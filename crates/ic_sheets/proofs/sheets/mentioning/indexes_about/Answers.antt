@@ -1,4 +1,4 @@
-use Rattle.std.proofs.Common.{◌∙◌, ap, inl, inr, sym}
+use Rattle.std.proofs.Common.{◌∙◌, ap, inl, inr}
 use Rattle.ic_pool.specs.MentionPlaces.{has_place}
 use Rattle.ic_pool.proofs.PlaceLemmas.{any_more}
 use Rattle.ic_sheets.specs.Index.{is_listed}
