@@ -1,5 +1,5 @@
 //! Which sheets have formulas that mention what, each thing told by its topic and each sheet by its id.
-ghost use Rattle.std.specs.Prelude.{◌≡◌, [], ℕ, drop, true, false};
+ghost use Rattle.std.specs.Prelude.{◌≡◌, drop};
 ghost use Rattle.std.specs.List.{AllByRecursion};
 ghost use Rattle.ic_laws.specs.declared.tree.Formula.{Formula};
 ghost use Rattle.ic_pool.specs.MentionPlaces.{places_with};

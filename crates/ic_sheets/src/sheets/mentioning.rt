@@ -65,7 +65,8 @@ fn put_indexes(about: &mut BTreeSet<usize>, indexes: &Spots, ids: &[u32]) -> Res
     ensures kept { (index : ℕ) → contains nat_cmp about.old index ≡ true
         → contains nat_cmp about.new index ≡ true }
     ensures put { OnOk result ((id : ℕ) → (index : ℕ) → is_listed id ids.now ≡ true
-        → index_at id indexes.now.list.items ≡ Some index → contains nat_cmp about.new index ≡ true) }
+        → index_at id indexes.now.list.items ≡ Some index
+        → contains nat_cmp about.new index ≡ true) }
 {
     for id in ids {
         if let Some(index) = index_in(indexes, *id) {
