@@ -47,7 +47,7 @@ present q sheets e =
       | inr none ↦ let no = sym e ∙ absent q sheets none in absurd (cc)
     ]
 
-none_apart : IsDistinct nat_eq []
+pub none_apart : IsDistinct nat_eq []
 unfolding IsDistinct
 none_apart = tt
 

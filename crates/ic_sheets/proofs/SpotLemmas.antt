@@ -24,7 +24,7 @@ swap_choices false false u v r h = refl
 
 -- ---- one is found
 
-at_least : (spots : List Spot) (least k : ℕ) (d : Spot) → Rise least spots → k < length spots → least ≤ (get_or spots k d).id
+pub at_least : (spots : List Spot) (least k : ℕ) (d : Spot) → Rise least spots → k < length spots → least ≤ (get_or spots k d).id
 at_least [] least k d r lt = absurd (omega (arith, lt))
 at_least (s ∷ spots) least zero d r lt = r.0
 at_least (s ∷ spots) least (suc k) d r lt =
@@ -137,14 +137,6 @@ out_found (s ∷ spots) least (suc k) id d r lt e q =
     ap (cond (nat_eq s.id q) (Some s.index)) (out_found spots (s.id + 1) k id d r.1 (omega (arith, lt)) e q)
     ∙ swap_choices (nat_eq s.id q) (nat_eq id q) (Some s.index) None (index_at q spots)
     (λ t u. let a = eqb-true s.id q t in let b = eqb-true id q u in omega (arith, a, b, more, e))
-
--- at an id that has none, none goes
-pub none_out : (spots : List Spot) (id : ℕ) → index_at id spots ≡ None → (q : ℕ) → index_at q spots ≡ cond (nat_eq id q) None (index_at q spots)
-none_out spots id none q = step (nat_eq id q) refl
-  where
-    step : (b : Bool) → nat_eq id q ≡ b → index_at q spots ≡ cond b None (index_at q spots)
-    step true same = ap (λ n. index_at n spots) (sym (eqb-true id q same)) ∙ none
-    step false other = refl
 
 -- ---- all change
 

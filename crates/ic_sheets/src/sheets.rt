@@ -14,6 +14,7 @@ mod grids;
 mod numbers;
 mod rewriting;
 mod spots;
+mod started;
 mod tabs;
 
 use crate::Sheet;
