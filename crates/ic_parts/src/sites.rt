@@ -96,8 +96,9 @@ fn push_sheets(
         (changed_key change.now.old change.now.new) formulas.now sheets.now) }
 {
     for (index, sheet) in sheets.iter().enumerate() {
+        let sheet = sheet.as_ref();
         if let Some(rewrites) = prepared_at(formulas, index) {
-            push_sheet(alloc, sites, sheet.as_ref(), rewrites, change)?;
+            push_sheet(alloc, sites, sheet, rewrites, change)?;
         }
     }
     Ok(())

@@ -11,16 +11,16 @@ use Rattle.ic_parts.proofs.sites.push_sheets.Goals.{in-Some+in_ok-push_sheet, in
 pub push_sheet-requires : goal.push_sheet-requires
 push_sheet-requires c =
     let sheets = c.args.sheets.now in
-    let s = c.as_ref.result.now in
-    let there : slice_get sheets c.loop-index.index ≡ Some s = slice_get_read sheets _ c.loop-index.index s refl c.loop-index-test.true (read_boxed c.args.sheets.now c.loop-index.index c.as_ref.ensures c.index-sheets-index.is) in
+    let s = c.as_ref-sheet.result.now in
+    let there : slice_get sheets c.loop-index.index ≡ Some s = slice_get_read sheets _ c.loop-index.index s refl c.loop-index-test.true (read_boxed c.args.sheets.now c.loop-index.index c.as_ref-sheet.ensures c.index-sheets-index.is) in
     alike_at c.args.formulas.now sheets c.loop-index.index c.in-Some.rewrites.now s c.requires (sym c.prepared_at.ensures ∙ ap (option_map (λ r. r.now)) c.in-Some.is) there
 
 pub loop-index-preserved : goal.loop-index-preserved
 loop-index-preserved c =
     let sheets = c.args.sheets.now in
     let formulas = c.args.formulas.now in
-    let s = c.as_ref.result.now in
-    let there : slice_get sheets c.loop-index.index ≡ Some s = slice_get_read sheets _ c.loop-index.index s refl c.loop-index-test.true (read_boxed c.args.sheets.now c.loop-index.index c.as_ref.ensures c.index-sheets-index.is) in
+    let s = c.as_ref-sheet.result.now in
+    let there : slice_get sheets c.loop-index.index ≡ Some s = slice_get_read sheets _ c.loop-index.index s refl c.loop-index-test.true (read_boxed c.args.sheets.now c.loop-index.index c.as_ref-sheet.ensures c.index-sheets-index.is) in
     let keys = changed_key c.args.change.now.old c.args.change.now.new in
     elim c.match-prepared_at.branch [
       | in-Some+in_ok-push_sheet w ↦
