@@ -39,9 +39,6 @@ module _ {W X : Type 0} {same : X → X → Bool} (laws : IsEquivalence same) (P
   pub fine_start : AreFine 0
   fine_start = record { each = tt; differ = none_apart same }
 
-  pub fine_each : (i : ℕ) → AreFine i → length ws ≤ i → AllByRecursion P ws
-  fine_each i done end = subst (AllByRecursion P) (take_all i ws end) done.each
-
   pub fine_differ : (i : ℕ) → AreFine i → length ws ≤ i → IsDistinct same (map f ws)
   fine_differ i done end = subst (λ xs. IsDistinct same (map f xs)) (take_all i ws end) done.differ
 

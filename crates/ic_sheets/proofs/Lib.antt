@@ -17,5 +17,6 @@ pub mod RemadeLemmas
 pub mod RewritingLemmas
 pub mod SearchLemmas
 pub mod ShiftLemmas
+pub mod SortLemmas
 pub mod SpotLemmas
 pub mod WriteLemmas

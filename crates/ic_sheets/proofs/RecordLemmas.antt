@@ -1,18 +1,22 @@
 -- Sheets that are made of plain records, one after another.
-use Rattle.std.proofs.Common.{◌≡◌, ◌∙◌, ◌<◌, ◌≤◌, ◌+◌, ℕ, suc, List, [], ◌∷◌, ◌++◌, Bool, true, false, cond, ◌||◌, Option, Some, None, option_map, is_some, map, max, length, take, get_or, nat_eq, refl, sym, ap, ap₂, arith}
-use Rattle.std.proofs.lemmas.List.{map-append, map_more}
+use Rattle.std.proofs.Common.{◌≡◌, ◌∙◌, ◌<◌, ◌≤◌, ◌+◌, ℕ, suc, List, [], ◌∷◌, ◌++◌, Bool, true, false, cond, ◌&&◌, ◌||◌, Option, Some, None, option_map, is_some, map, max, length, take, get_or, nat_eq, nat_lt, refl, sym, subst, ap, ap₂, arith}
+use Rattle.std.proofs.lemmas.Bool.{ltb-false, ltb-true}
+use Rattle.std.proofs.lemmas.List.{get_or_default, map-append, map_more}
 use Rattle.std.specs.Cmp.{nat_eq_equiv}
-use Rattle.std.specs.List.{list_any}
+use Rattle.std.specs.List.{AllByRecursion, AllWithin, list_any}
 use Rattle.ic_laws.proofs.CoreLemmas.{above_greatest, agrees_equiv}
 use Rattle.ic_laws.specs.CoreBook.{IsId}
 use Rattle.ic_laws.specs.Greatest.{greatest}
 use Rattle.ic_laws.specs.Name.{agrees}
 use Rattle.ic_cells.specs.declared.sheet.Worksheet.{Worksheet}
-use Rattle.ic_sheets.proofs.ApartLemmas.{AreFine, fine_next, fine_start, first_apart, not_differ, not_each}
+use Rattle.ic_sheets.proofs.ApartLemmas.{AreFine, fine_next, fine_start, first_apart}
 use Rattle.ic_sheets.proofs.KeptLemmas.{greatest_pushed}
 use Rattle.ic_sheets.proofs.SearchLemmas.{ids, names}
-use Rattle.ic_sheets.specs.Records.{HasApartNames, HasIds, started}
+use Rattle.ic_sheets.specs.Index.{dangles_at}
+use Rattle.ic_sheets.specs.Mentioners.{KnowsSheets}
+use Rattle.ic_sheets.specs.Records.{HasApartNames, started}
 use Rattle.ic_sheets.specs.Search.{index_with_id}
+use Rattle.ic_sheets.specs.declared.mentioners.Mentioners.{Mentioners}
 use Rattle.ic_sheets.specs.declared.sheet.Sheet.{Sheet}
 
 abbrev pub name_in : Worksheet → List ℕ
@@ -70,38 +74,48 @@ module _ (ws : List Worksheet) where
 abbrev pub HasId : Worksheet → Type 0
 HasId w = IsId w.sheet_id
 
-names_started : (ws : List Worksheet) → names (map started ws) ≡ map name_in ws
+pub names_started : (ws : List Worksheet) → names (map started ws) ≡ map name_in ws
 names_started [] = refl
 names_started (w ∷ ws) = ap (λ ns. w.name ∷ ns) (names_started ws)
 
-ids_started : (ws : List Worksheet) → ids (map started ws) ≡ map id_in ws
+pub ids_started : (ws : List Worksheet) → ids (map started ws) ≡ map id_in ws
 ids_started [] = refl
 ids_started (w ∷ ws) = ap (λ ns. w.sheet_id ∷ ns) (ids_started ws)
 
-module _ (ws : List Worksheet) where
-  pub record StartedTo (i : ℕ) (sheets : List Sheet) : Type 0 where
-    pub made : sheets ≡ map started (take i ws)
-    pub fine : AreFine nat_eq_equiv HasId id_in ws i
+module _ (ws : List Worksheet) (i : ℕ) (w : Worksheet) (within : i < length ws) (item : w ≡ get_or ws i w) where
+  -- whether each so far has an id
+  pub more_have : AllWithin HasId ws 0 i → HasId w → AllWithin HasId ws 0 (i + 1)
+  more_have before here k d from lt = step (nat_lt k i) refl
+    where
+      step : (b : Bool) → nat_lt k i ≡ b → HasId (get_or ws k d)
+      step true e = before k d from (ltb-true k i e)
+      step false e =
+          let le = ltb-false k i e in
+          let same : i ≡ k = omega (arith, lt, le) in
+          subst (λ n. HasId (get_or ws n d)) same (subst HasId (item ∙ get_or_default ws i w d within) here)
 
-  pub started_names : (i : ℕ) (sheets : List Sheet) → StartedTo i sheets → names sheets ≡ map name_in (take i ws)
-  started_names i sheets done = ap names done.made ∙ names_started (take i ws)
+  module _ (sheets : List Sheet) (made : sheets ≡ map started (take i ws)) where
+    pub started_next : (after : List Sheet) → after ≡ sheets ++ started w ∷ [] → after ≡ map started (take (i + 1) ws)
+    started_next after put =
+        put ∙ ap (λ xs. xs ++ started w ∷ []) made ∙ sym (map_more started ws i w within ∙ ap (λ y. map started (take i ws) ++ started y ∷ []) (sym item))
 
-  pub started_ids : (i : ℕ) (sheets : List Sheet) → StartedTo i sheets → ids sheets ≡ map id_in (take i ws)
-  started_ids i sheets done = ap ids done.made ∙ ids_started (take i ws)
-
-  module _ (i next : ℕ) (w : Worksheet) (is_next : i + 1 ≡ next) (within : i < length ws) (item : w ≡ get_or ws i w) (sheets : List Sheet) (done : StartedTo i sheets) where
     pub name_free : HasApartNames ws → list_any (agrees w.name) (names sheets) ≡ false
-    name_free apart = ap (list_any (agrees w.name)) (started_names i sheets done) ∙ first_apart agrees_equiv name_in ws i w within item apart
+    name_free apart = ap (λ xs. list_any (agrees w.name) (names xs)) made ∙ ap (list_any (agrees w.name)) (names_started (take i ws)) ∙ first_apart agrees_equiv name_in ws i w within item apart
 
-    pub started_next : (after : List Sheet) → IsId w.sheet_id → list_any (nat_eq w.sheet_id) (ids sheets) ≡ false → after ≡ sheets ++ started w ∷ [] → StartedTo next after
-    started_next after id free put = record {
-      made = put ∙ ap (λ xs. xs ++ started w ∷ []) done.made
-          ∙ sym (ap (λ n. map started (take n ws)) (sym is_next) ∙ map_more started ws i w within ∙ ap (λ y. map started (take i ws) ++ started y ∷ []) (sym item));
-      fine = fine_next nat_eq_equiv HasId id_in ws i next w is_next within item done.fine id (sym (ap (list_any (nat_eq w.sheet_id)) (started_ids i sheets done)) ∙ free);
-    }
+pub all_have : (ws : List Worksheet) → ((k : ℕ) (d : Worksheet) → k < length ws → HasId (get_or ws k d)) → AllByRecursion HasId ws
+all_have [] each = tt
+all_have (w ∷ ws) each = (each 0 w (omega arith), all_have ws (λ k d lt. each (suc k) d (omega (arith, lt))))
 
-    pub id_taken : list_any (nat_eq w.sheet_id) (ids sheets) ≡ true → HasIds ws → ⊥
-    id_taken taken h = not_differ nat_eq_equiv HasId id_in ws i next w is_next within item (sym (ap (list_any (nat_eq w.sheet_id)) (started_ids i sheets done)) ∙ taken) h.differ
+-- nothing dangles in them
+pub none_dangles : (id : ℕ) (ws : List Worksheet) → dangles_at id (map started ws) ≡ false
+none_dangles id [] = refl
+none_dangles id (w ∷ ws) = ap₂ ◌||◌ (never (nat_eq id w.sheet_id)) (none_dangles id ws)
+  where
+    never : (b : Bool) → (b && false) ≡ false
+    never true = refl
+    never false = refl
 
-    pub no_id : (IsId w.sheet_id → ⊥) → HasIds ws → ⊥
-    no_id not h = not_each nat_eq_equiv HasId id_in ws i next w is_next within item not h.each
+-- and what they mention is known, since they have no formulas
+pub none_known : (mentioners : Mentioners) (ws : List Worksheet) → KnowsSheets mentioners (map started ws)
+none_known mentioners [] = tt
+none_known mentioners (w ∷ ws) = (tt, none_known mentioners ws)

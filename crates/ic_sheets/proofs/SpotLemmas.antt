@@ -24,7 +24,7 @@ swap_choices false false u v r h = refl
 
 -- ---- one is found
 
-at_least : (spots : List Spot) (least k : ℕ) (d : Spot) → Rise least spots → k < length spots → least ≤ (get_or spots k d).id
+pub at_least : (spots : List Spot) (least k : ℕ) (d : Spot) → Rise least spots → k < length spots → least ≤ (get_or spots k d).id
 at_least [] least k d r lt = absurd (omega (arith, lt))
 at_least (s ∷ spots) least zero d r lt = r.0
 at_least (s ∷ spots) least (suc k) d r lt =

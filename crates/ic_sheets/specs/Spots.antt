@@ -1,6 +1,7 @@
 -- At which indexes sheets stand, by their ids.
 use Rattle.std.specs.Prelude.{ℕ, ◌+◌, ◌-◌, ◌≤◌, List, [], ◌∷◌, ⊤, map, Option, Some, None, nat_eq, nat_lt, if◌then◌else◌}
 use Rattle.std.specs.Coded.{×_prop, Unit-prop, le_prop}
+use Rattle.ic_sheets.specs.declared.sheet.Sheet.{Sheet}
 use Rattle.ic_sheets.specs.declared.sheets.spots.Spot.{Spot}
 
 -- the index at an id
@@ -32,3 +33,8 @@ moved_index from to place = if nat_eq place from then to else raised to (lowered
 -- the indexes changed by a function
 abbrev pub with_indexes : (ℕ → ℕ) → List Spot → List Spot
 with_indexes f spots = map (λ (s : Spot). record s { index = f s.index }) spots
+
+-- the indexes of these sheets, of which the first stands at this one
+abbrev pub spots_from : ℕ → List Sheet → List Spot
+spots_from index [] = []
+spots_from index (s ∷ sheets) = record { id = s.id; index = index } ∷ spots_from (index + 1) sheets

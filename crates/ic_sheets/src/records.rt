@@ -1,6 +1,8 @@
 //! Sheets that are handed in as plain records: their names and their ids.
 ghost use Rattle.std.specs.Prelude.{◌≡◌, ◌↔◌, ◌≤◌, IfOk, IsTrue, MatchOption, length, map};
-ghost use Rattle.ic_laws.specs.CoreBook.{last_id};
+ghost use Rattle.std.specs.Bool.{Decides};
+ghost use Rattle.std.specs.List.{AllByRecursion};
+ghost use Rattle.ic_laws.specs.CoreBook.{IsId, last_id};
 ghost use Rattle.ic_sheets.specs.Index.{FindsSheets};
 ghost use Rattle.ic_sheets.specs.Records.{HasApartNames, HasIds, started};
 
@@ -39,14 +41,20 @@ pub fn sheets_of(
         (λ named. HasIds worksheets.now × (named.0 ≡ map started worksheets.now)
         × FindsSheets named.1 named.0)) }
 {
-    let mut sheets = Sheets::new(alloc);
-    let mut ids = BTreeMap::new(alloc);
-    for worksheet in worksheets {
-        let id = worksheet.sheet_id;
-        if id == 0 || sheets.has_id(id) {
-            return Ok(None);
-        }
-        sheets.add_leaving_formulas(&mut ids, id, worksheet.name.as_str())?;
+    if !have_ids(worksheets) {
+        return Ok(None);
     }
-    Ok(Some((sheets, ids)))
+    Sheets::started(alloc, worksheets)
+}
+
+/// Whether none of these sheets has 0 for an id.
+fn have_ids(worksheets: &[Worksheet]) -> bool
+    ensures { Decides result (AllByRecursion (λ w. IsId w.sheet_id) worksheets.now) }
+{
+    for worksheet in worksheets {
+        if worksheet.sheet_id == 0 {
+            return false;
+        }
+    }
+    true
 }

@@ -15,6 +15,7 @@ mod mentioning;
 mod numbers;
 mod rewriting;
 mod spots;
+mod started;
 mod tabs;
 
 use crate::Sheet;

@@ -174,7 +174,11 @@ fn shift(sheets: &mut [Boxed<Sheet>], from: usize, to: usize)
 }
 
 /// Puts a key and an id in. `OutOfMemory` changes nothing.
-fn put_id(ids: &mut BTreeMap<String, u32>, key: String, id: u32) -> Result<(), OutOfMemory>
+pub(super) fn put_id(
+    ids: &mut BTreeMap<String, u32>,
+    key: String,
+    id: u32,
+) -> Result<(), OutOfMemory>
     ensures ok { OnOk result ((q : List ℕ) → get_by_text ids.new q
         ≡ cond (bytes_eq (string_bytes key) q) (Some id) (get_by_text ids.old q)) }
     ensures err { OnErr result ((q : List ℕ) → get_by_text ids.new q ≡ get_by_text ids.old q) }

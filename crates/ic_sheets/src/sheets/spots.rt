@@ -1,11 +1,14 @@
 //! At which index a sheet stands, found by its id. All is in one list, so that it is gone over at once where many sheets
 //! come to stand elsewhere.
-ghost use Rattle.std.specs.Prelude.{◌≡◌, ◌<◌, ◌≤◌, ℕ, [], MatchOption, None, OnErr, OnOk, Some, length, map, nat_eq, option_map, vec_capacity, vec_len, if◌then◌else◌};
-ghost use Rattle.std.specs.List.{AllWithin, HoldsAt};
+ghost use Rattle.std.specs.Prelude.{◌≡◌, ◌<◌, ◌≤◌, ℕ, [], IfOk, MatchOption, None, OnErr, OnOk, Some, length, map, nat_eq, option_map, vec_capacity, vec_len, if◌then◌else◌};
+ghost use Rattle.std.specs.List.{AllWithin, HoldsAt, IsDistinct};
+ghost use Rattle.std.specs.Bool.{Decides};
 ghost use Rattle.ic_laws.specs.Greatest.{greatest};
-ghost use Rattle.ic_sheets.specs.Spots.{Rise, Rise-prop, index_at, lowered, moved_index, with_indexes};
+ghost use Rattle.ic_sheets.specs.Spots.{Rise, Rise-prop, index_at, lowered, moved_index, spots_from, with_indexes};
+ghost use Rattle.ic_sheets.specs.Search.{index_with_id};
 
-use ic_laws::OutOfMemory;
+use crate::Sheet;
+use ic_laws::{Boxed, OutOfMemory};
 use std::alloc::Global;
 
 /// A sheet's id, and the index at which it stands, from 0.
@@ -30,6 +33,30 @@ impl Spots {
         Spots {
             list: Vec::new(alloc),
         }
+    }
+
+    /// The indexes of these sheets. None exactly where two have one id.
+    pub fn of_sheets(alloc: Global, sheets: &[Boxed<Sheet>]) -> Result<Option<Spots>, OutOfMemory>
+        ensures { IfOk result (λ made. MatchOption made
+            (IsDistinct nat_eq (map (λ s. s.id) sheets.now) → ⊥)
+            (λ spots. IsDistinct nat_eq (map (λ s. s.id) sheets.now)
+            × ((id : ℕ) → index_at id spots.list.items ≡ index_with_id id sheets.now))) }
+    {
+        let list = listed(alloc, sheets)?;
+        Ok(Spots::of(list))
+    }
+
+    /// These, in any order. None exactly where two have one id.
+    fn of(mut list: Vec<Spot>) -> Option<Spots>
+        ensures { MatchOption result (IsDistinct nat_eq (map (λ s. s.id) list.items) → ⊥)
+            (λ made. IsDistinct nat_eq (map (λ s. s.id) list.items)
+            × ((id : ℕ) → index_at id made.list.items ≡ index_at id list.items)) }
+    {
+        list.sort_unstable_by_key(|spot| spot.id);
+        if !do_rise(&list) {
+            return None;
+        }
+        Some(Spots { list })
     }
 
     /// The index at this id. None exactly where there is none.
@@ -95,6 +122,30 @@ impl Spots {
     {
         move_all(&mut self.list, from, to);
     }
+}
+
+/// The indexes of sheets, in the order of the sheets.
+fn listed(alloc: Global, sheets: &[Boxed<Sheet>]) -> Result<Vec<Spot>, OutOfMemory>
+    ensures { IfOk result (λ list. list.items ≡ spots_from 0 sheets.now) }
+{
+    let mut list = Vec::new(alloc);
+    for (index, sheet) in sheets.iter().enumerate() {
+        let id = sheet.as_ref().id;
+        list.push(Spot { id, index })?;
+    }
+    Ok(list)
+}
+
+/// Whether the id of each is higher than that of the one before.
+fn do_rise(spots: &[Spot]) -> bool
+    ensures { Decides result (Rise 0 spots.now) }
+{
+    for place in 1..spots.len() {
+        if spots[place - 1].id >= spots[place].id {
+            return false;
+        }
+    }
+    true
 }
 
 /// How many have a lower id.

@@ -1,6 +1,7 @@
 use Rattle.std.proofs.Common.{◌++◌, ap, chars, map, refl, sym, ◌∙◌}
 use Rattle.ic_definitions.specs.Named.{definitions_scene}
 use Rattle.ic_machine.specs.subjects.Sheets.{copied_of, local_in}
+use Rattle.ic_sheets.proofs.IndexLemmas.{read_boxed}
 use Rattle.ic_sheets.proofs.OwnLemmas.{same_ids, same_names}
 use Rattle.ic_sheets.proofs.SearchLemmas.{ids, names}
 use Rattle.ic_sheets.specs.declared.sheet.Sheet.{Sheet as HeldSheet}
@@ -24,9 +25,9 @@ add_copies-requires-clause-apart c = copies_apart 0 c.args.id c.args.contents.no
 pub returns-in-Ok-clause-ok : goal.returns-in-Ok-clause-ok
 returns-in-Ok-clause-ok c = λ source at.
     copy_made (function_of c.args.english.now) c.args.index c.args.id (chars c.args.name.now) source c.args.contents.now c.requires.within at
-    c.in_ok-copies.copies c.new-both.result.first.definitions.now c.new-both.result.more.definitions.now c.index-as_slice-index.result
-    (read_is c.as_slice.result.now c.args.contents.now.sheets c.args.index c.index-as_slice-index.result source c.as_slice.ensures.sheets c.requires.within c.index-as_slice-index.is at)
-    (c.in_ok-copies.ensures.copies ∙ ap (λ (s : HeldSheet). map (local_in c.args.id) (copied_of s.id c.args.contents.now.definitions)) (sym c.index-as_slice-index.is)) (ap (λ n. n.definitions.now) c.new-both.ensures.first) (ap (λ n. n.definitions.now) c.new-both.ensures.more)
+    c.in_ok-copies.copies c.new-both.result.first.definitions.now c.new-both.result.more.definitions.now c.as_ref.result.now
+    (read_is c.as_slice.result.now c.args.contents.now.sheets c.args.index c.as_ref.result.now source c.as_slice.ensures.sheets c.requires.within (read_boxed c.as_slice.result.now c.args.index c.as_ref.ensures c.index-as_slice-index.is) at)
+    (c.in_ok-copies.ensures.copies ∙ ap (λ (s : HeldSheet). map (local_in c.args.id) (copied_of s.id c.args.contents.now.definitions)) (sym (read_boxed c.as_slice.result.now c.args.index c.as_ref.ensures c.index-as_slice-index.is))) (ap (λ n. n.definitions.now) c.new-both.ensures.first) (ap (λ n. n.definitions.now) c.new-both.ensures.more)
     c.insert_unapplied.new.self c.in_ok-prepared.ensures.ok c.in_ok-prepared.prepared.items c.in_ok-bodies.bodies.bodies.items c.in-Ok.filling _
     c.add_copies.new.contents.sheets c.apply.new.self c.in_ok-prepared.ensures.made c.in_ok-prepared.ensures.looks_up c.in-Ok.ensures.sheets c.apply.ensures c.put.ensures c.in-Ok.ensures.filling c.in_ok-bodies.ensures.made c.in-Ok.ensures.definitions
 
