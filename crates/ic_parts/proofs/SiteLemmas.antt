@@ -1,7 +1,7 @@
 -- The search for what an update captures: sheet by sheet.
-use Rattle.std.proofs.Common.{◌≡◌, ◌++◌, ◌<◌, append_assoc, ℕ, zero, suc, length, List, [], ◌∷◌, Bool, true, false, cond, Option, Some, None, get_or, map, nat_eq, refl, sym, ap, ap₂, ◌∙◌, subst, arith}
+use Rattle.std.proofs.Common.{◌≡◌, ◌++◌, ◌<◌, ◌≤◌, append_assoc, ℕ, zero, suc, length, List, [], ◌∷◌, Bool, true, false, cond, drop, Option, Some, None, get_or, map, nat_eq, refl, sym, ap, ap₂, ◌∙◌, subst, arith}
 use Rattle.std.proofs.lemmas.Bool.{eqb-true, or_parts}
-use Rattle.std.proofs.lemmas.List.{map-append}
+use Rattle.std.proofs.lemmas.List.{append-nil, drop_all, map-append}
 use Rattle.std.proofs.lemmas.List.Folds.{list_any-append}
 use Rattle.std.proofs.lemmas.List.Sorted.{IsPermutation-middle}
 use Rattle.std.proofs.lemmas.Map.Keys.{IsDistinct-IsPermutation, IsDistinct-head, IsDistinct-tail}
@@ -139,3 +139,8 @@ module _ (keys : KeyChange) where
           other_found x xs (p ∷ ps) others ∙ in_order (p ∷ ps) xs part (IsDistinct-tail nat_eq x.id (ids_of xs) d)
           ∙ ap (λ (a : List MentionSite). a ++ sites_of_sheets keys (p ∷ ps) xs)
           (sym (ap (λ o. sheet_sites keys (unwrap_or o nothing) x) (own_none x.id (p ∷ ps) (some_apart x.id (own_ids (p ∷ ps)) others)) ∙ nothing_sites x))
+
+  -- none is left past the last of them
+  pub prepared_done : (ps : Own) (xs : List Sheet) (index : ℕ) (items all : List MentionSite) → length ps ≤ index → items ++ flat_map (prepared_sites keys xs) (drop index ps) ≡ all → items ≡ all
+  prepared_done ps xs index items all end so_far =
+      sym (append-nil items) ∙ ap (λ rest. items ++ rest) (sym (ap (flat_map (prepared_sites keys xs)) (drop_all index ps end))) ∙ so_far

@@ -14,7 +14,7 @@ use crate::contents::Contents;
 use ic_cells::Cell;
 use ic_definitions::{BodyRewrites, Definition, NewBody};
 use ic_keep::{KeyChange, captured_formula};
-use ic_laws::{Boxed, NameKey, OutOfMemory};
+use ic_laws::{NameKey, OutOfMemory};
 use ic_pool::{Pool, Replacement, Rewrites, copy_key, same_key};
 use ic_sheets::{Sheet, Sheets};
 use std::alloc::Global;

@@ -1,6 +1,8 @@
-use Rattle.std.proofs.Common.{ap, chars, refl, subst, sym, ◌∙◌}
+use Rattle.std.proofs.Common.{◌≡◌, ◌∙◌, List, ap, chars, map, refl, subst, sym, true, ℕ}
 use Rattle.ic_tree.specs.LanguageWords.{function_of}
 use Rattle.ic_laws.specs.Keeping.{changed_key}
+use Rattle.ic_pool.specs.Rewrites.{RewritesState}
+use Rattle.ic_sheets.specs.Index.{is_part}
 use Rattle.ic_parts.specs.Sites.{AreAlikePools, listed_sites}
 use Rattle.ic_changes.proofs.UpdatedRules.{is_prepared, made_leaves, made_leaves_bodies, prepared_alike, rule_seen}
 use Rattle.ic_changes.proofs.definitions.remaking.prepare_update.Goals as goal
@@ -23,6 +25,9 @@ sites_of_update-requires-clause-pools c =
     (prepared_alike (function_of c.args.english.now) c.args.contents.now c.args.index (chars c.args.new_name.now) c.args.change.now _
     (c.new-updating.ensures
     ∙ rule_seen (function_of c.args.english.now) c.args.contents.now c.args.index (chars c.args.new_name.now) c.args.change.now c.new-definitions.result.definitions.definitions.now c.new-definitions.result.index (chars c.new-definitions.result.name.now) c.new-definitions.result.key.now (ap (λ n. n.definitions.now) c.new-definitions.ensures.definitions) c.new-definitions.ensures.index (ap chars c.new-definitions.ensures.name) c.new-definitions.ensures.key) c.requires.leaves c.in_ok-formulas.formulas.items c.in_ok-bodies.bodies c.in_ok-formulas.ensures c.in_ok-bodies.ensures.listed).0
+
+pub sites_of_update-requires-clause-ordered : goal.sites_of_update-requires-clause-ordered
+sites_of_update-requires-clause-ordered c = subst (λ (fs : List (ℕ × RewritesState)). is_part (map (λ p. p.0) fs) (map (λ s. s.id) c.args.contents.now.sheets) ≡ true) (sym c.deref.ensures.value) c.in_ok-formulas.ensures.ordered
 
 pub sites_of_update-requires-clause-bodies : goal.sites_of_update-requires-clause-bodies
 sites_of_update-requires-clause-bodies c =
