@@ -1,12 +1,20 @@
 -- Words and the texts that they spell.
-use Rattle.std.proofs.Common.{◌≡◌, ◌≢◌, ◌↔◌, ◌⊎◌, ℕ, ◌≤◌, ◌||◌, arith, chars, encode_utf8, encode_utf8_all, IsUtf8, List, [], ◌∷◌, ◌++◌, false, ◌==◌, Option, Some, None, IsSome, IsNone, is_some, option_map, option_and_then, refl, sym, subst, ◌∙◌, ap, inl, inr, append_assoc}
-use Rattle.std.specs.List.{list_any}
-use Rattle.std.proofs.lemmas.Bool.{or_parts}
+use Rattle.std.proofs.Common.{◌≡◌, ◌≢◌, ◌↔◌, ◌⊎◌, ℕ, ◌+◌, ◌≤◌, ◌||◌, arith, encode_utf8, encode_utf8_all, List, [], ◌∷◌, ◌++◌, drop, get_or, length, take, true, false, ◌==◌, Option, Some, None, IsSome, IsNone, is_some, option_map, option_and_then, refl, sym, subst, ◌∙◌, ap, inl, inr, append_assoc}
+use lib.Utf8.{encode, scalar, scalars}
+use Rattle.std.specs.List.{flat_map, join_by, list_any}
+use Rattle.std.specs.Str.{IsCharBoundary, IsUtf8, chars}
+use Rattle.std.proofs.Math.Bool.{or-false}
+use Rattle.std.proofs.Math.Seq.{get_or-append_seam}
+use Rattle.std.proofs.lemmas.Bool.{and_parts, or_parts}
 use Rattle.std.proofs.lemmas.Bool.Decides.{eqb_tells, leb_tells, nat_tests}
+use Rattle.std.proofs.lemmas.Grind.{flat_map-append}
+use Rattle.std.proofs.lemmas.List.{length-take}
 use Rattle.std.proofs.lemmas.List.Folds.{list_any-append}
-use Rattle.std.proofs.lemmas.Str.{encode_ascii, encodes-chars}
+use Rattle.std.proofs.lemmas.Str.{IsCharBoundary-after_ascii, IsCharBoundary-before_ascii, IsUtf8-take, chars-append, encode_ascii, encodes-chars}
+use Rattle.memchr.specs.Find.{is_byte3}
 use Rattle.ic_laws.specs.Lines.{escape_of, escape_meaning, escaped, unescaped}
 use Rattle.ic_lines.specs.Escapes.{GoesOnWrong, HasWrongEscape, is_escaped}
+use Rattle.ic_lines.specs.Reading.{IsFirstLineFeed, has_line_feed}
 
 -- a character that is no backslash stands for itself
 unescaped-plain : (c : ℕ) (cs : List ℕ) → (c == 92) ≡ false → unescaped (c ∷ cs) ≡ option_map (λ t. c ∷ t) (unescaped cs)
@@ -182,3 +190,84 @@ escaped_bytes (c ∷ cs) h =
 
 pub escaped-plain : (bytes : List ℕ) → IsUtf8 bytes → list_any is_escaped bytes ≡ false → escaped (chars bytes) ≡ chars bytes
 escaped-plain bytes u h = escaped_bytes (chars bytes) (ap (list_any is_escaped) (encodes-chars bytes u) ∙ h)
+
+-- in a text without a line feed another byte is escaped
+pub escaped-without_feed : (bytes : List ℕ) → has_line_feed bytes ≡ false → list_any is_escaped bytes ≡ list_any (is_byte3 92 9 13) bytes
+escaped-without_feed [] h = refl
+escaped-without_feed (b ∷ bytes) h =
+    let parts = or_parts (b == 10) (has_line_feed bytes) h in
+    rw (parts.0, or-false (b == 92 || b == 9), escaped-without_feed bytes parts.1) refl
+
+-- a text can be cut before a line feed and after it
+feed-there : (bytes : List ℕ) (place : ℕ) → IsFirstLineFeed bytes place → get_or bytes place 0 ≡ 10
+feed-there bytes place found =
+    let front = take place bytes in
+    let rest = drop (place + 1) bytes in
+    let fits : length front ≡ place = omega (arith, length-take place bytes, found.within) in
+    ap (λ b. get_or b place 0) found.parts ∙ ap (λ n. get_or (front ++ 10 ∷ rest) n 0) (sym fits) ∙ get_or-append_seam front 10 rest 0
+
+pub after_feed : (bytes : List ℕ) (place : ℕ) → IsUtf8 bytes → IsFirstLineFeed bytes place → IsCharBoundary bytes (place + 1)
+after_feed bytes place u found = IsCharBoundary-after_ascii bytes place u found.within (omega (arith, feed-there bytes place found))
+
+feed_utf8 : IsUtf8 (10 ∷ [])
+unfolding encode
+feed_utf8 = (10 ∷ [], (refl, refl))
+
+feed_chars : chars (10 ∷ []) ≡ 10 ∷ []
+unfolding chars
+feed_chars = refl
+
+pub cut_chars : (bytes : List ℕ) (place : ℕ) → IsUtf8 bytes → IsFirstLineFeed bytes place → chars bytes ≡ chars (take place bytes) ++ 10 ∷ chars (drop (place + 1) bytes)
+cut_chars bytes place u found =
+    let front = take place bytes in
+    let rest = drop (place + 1) bytes in
+    let is_front = IsUtf8-take bytes place u (IsCharBoundary-before_ascii bytes place found.within (omega (arith, feed-there bytes place found))) in
+    ap chars found.parts ∙ chars-append front (10 ∷ rest) is_front
+    ∙ ap (λ cs. chars front ++ cs) (chars-append (10 ∷ []) rest feed_utf8 ∙ ap (λ cs. cs ++ chars rest) feed_chars)
+
+-- Texts put together, as they are written in words. ----
+
+pub escaped-append : (a b : List ℕ) → escaped (a ++ b) ≡ escaped a ++ escaped b
+escaped-append a b = flat_map-append escape_of a b
+
+module _ (f : ℕ → List ℕ) (sep : List ℕ) where
+  escaped-followed : (xs : List ℕ) → flat_map (λ x. escaped sep ++ escaped (f x)) xs ≡ escaped (flat_map (λ x. sep ++ f x) xs)
+  escaped-followed [] = refl
+  escaped-followed (x ∷ xs) =
+      let rest = flat_map (λ x. sep ++ f x) xs in
+      ap (λ v. (escaped sep ++ escaped (f x)) ++ v) (escaped-followed xs)
+      ∙ ap (λ v. v ++ escaped rest) (sym (escaped-append sep (f x))) ∙ sym (escaped-append (sep ++ f x) rest)
+
+  pub escaped-joined : (xs : List ℕ) → join_by (λ x. escaped (f x)) (escaped sep) xs ≡ escaped (join_by f sep xs)
+  escaped-joined [] = refl
+  escaped-joined (x ∷ xs) = ap (λ v. escaped (f x) ++ v) (escaped-followed xs) ∙ sym (escaped-append (f x) (flat_map (λ x. sep ++ f x) xs))
+
+scalars_parts : (xs ys : List ℕ) → scalars (xs ++ ys) ≡ true → (scalars xs ≡ true) × (scalars ys ≡ true)
+scalars_parts [] ys h = (refl, h)
+scalars_parts (x ∷ xs) ys h =
+    let first = and_parts (scalar x) (scalars (xs ++ ys)) h in
+    let rest = scalars_parts xs ys first.1 in (rw (first.0, rest.0) refl, rest.1)
+
+scalar_escaped : (c : ℕ) → scalars (escape_of c) ≡ true → scalar c ≡ true
+scalar_escaped c h =
+    elim (eqb_tells c 92) [
+      | inl p ↦ rw p.1 refl
+      | inr p ↦ elim (eqb_tells c 9) [
+        | inl q ↦ rw q.1 refl
+        | inr q ↦ elim (eqb_tells c 10) [
+          | inl r ↦ rw r.1 refl
+          | inr r ↦ elim (eqb_tells c 13) [
+            | inl s ↦ rw s.1 refl
+            | inr s ↦ let e : escape_of c ≡ c ∷ [] = rw (p.0, q.0, r.0, s.0) refl in (and_parts (scalar c) true (ap scalars (sym e) ∙ h)).0
+          ]
+        ]
+      ]
+    ]
+
+scalars_escaped : (t : List ℕ) → scalars (escaped t) ≡ true → scalars t ≡ true
+scalars_escaped [] h = refl
+scalars_escaped (c ∷ t) h = let parts = scalars_parts (escape_of c) (escaped t) h in rw (scalar_escaped c parts.0, scalars_escaped t parts.1) refl
+
+-- what stands escaped at the end of a text is one
+pub scalars_behind : (front t whole : List ℕ) → whole ≡ front ++ escaped t → scalars whole ≡ true → scalars t ≡ true
+scalars_behind front t whole e h = scalars_escaped t (scalars_parts front (escaped t) (ap scalars (sym e) ∙ h)).1

@@ -1,5 +1,5 @@
 -- Texts, their characters and their bytes.
-use Rattle.std.proofs.Common.{◌≡◌, ℕ, ◌+◌, ◌<◌, ◌≤◌, List, [], ◌∷◌, ◌++◌, length, take, drop, get_or, false, ◌==◌, Option, Some, None, is_some, encode_utf8, encode_utf8_all, refl, sym, ◌∙◌, ap, inl, inr, arith}
+use Rattle.std.proofs.Common.{◌≡◌, ℕ, ◌+◌, ◌<◌, ◌≤◌, List, [], ◌∷◌, ◌++◌, length, take, drop, get_or, Bool, false, ◌==◌, Option, Some, None, is_some, encode_utf8, encode_utf8_all, refl, sym, ◌∙◌, ap, inl, inr, arith}
 use Rattle.std.specs.List.{list_any}
 use Rattle.std.proofs.Math.Bool.{or-false}
 use Rattle.std.proofs.lemmas.Bool.{eqb-true, false_from_ne_true}
@@ -17,10 +17,14 @@ high_bytes c h k l =
       | inr p ↦ let e : c ≡ get_or (encode_utf8 c) k 0 = inside_one c [] (encode_utf8 c) k (sym (append-nil (encode_utf8 c))) l p.1 in absurd (omega arith)
     ]
 
--- what a search for a byte finds: whether it stands there
+-- what a search for bytes finds: whether one stands there
+pub searched : (test : ℕ → Bool) (bytes : List ℕ) (r : Option ℕ) → IsFirstByte test bytes r → is_some r ≡ list_any test bytes
+searched test bytes None h = sym (list_any_none test bytes (λ k d l. rw (get_or_default bytes k d 0 l) (false_from_ne_true (test (get_or bytes k 0)) (h k (omega arith) l))))
+searched test bytes (Some n) h = sym (list_any_at test bytes n 0 h.0.high h.1)
+
+-- likewise for one byte
 pub byte-searched : (a : ℕ) (bytes : List ℕ) (r : Option ℕ) → IsFirstByte (is_byte a) bytes r → is_some r ≡ list_any (λ b. b == a) bytes
-byte-searched a bytes None h = sym (list_any_none (λ b. b == a) bytes (λ k d l. rw (get_or_default bytes k d 0 l) (false_from_ne_true (get_or bytes k 0 == a) (h k (omega arith) l))))
-byte-searched a bytes (Some n) h = sym (list_any_at (λ b. b == a) bytes n 0 h.0.high h.1)
+byte-searched a = searched (is_byte a)
 
 -- and what stands before its place and after it
 pub byte-cut : (a : ℕ) (bytes : List ℕ) (n : ℕ) → IsFirstByte (is_byte a) bytes (Some n) → bytes ≡ take n bytes ++ a ∷ drop (n + 1) bytes

@@ -1,10 +1,14 @@
-ghost use Rattle.std.specs.Prelude.{◌≡◌, ◌↔◌, ◌++◌, ℕ, List, Some, chars, string_bytes, IfOk, OnOk, IsNone};
+ghost use Rattle.std.specs.Prelude.{◌≡◌, ◌↔◌, ◌<◌, ◌++◌, ◌∷◌, ℕ, List, Some, chars, false, length, string_bytes, IfOk, IfSome, MatchOption, OnOk, IsNone};
+ghost use Rattle.ic_laws.specs.Character.{line_feed};
 ghost use Rattle.ic_laws.specs.Lines.{escape_meaning, escape_of, escaped, unescaped};
 ghost use Rattle.std.specs.List.{list_any};
 ghost use Rattle.ic_lines.specs.Escapes.{HasWrongEscape, is_escaped};
+ghost use Rattle.ic_lines.specs.Reading.{has_line_feed};
 
+use crate::first_line_feed;
 use ic_laws::scan::{first_char, push_char, push_text};
 use ic_laws::{OutOfMemory, Text};
+use memchr::memchr3;
 use std::alloc::Global;
 
 /// The text as it is written in a word: each backslash, tab, line feed and carriage return by its escape.
@@ -21,15 +25,13 @@ pub fn push_escaped(word: &mut String, text: &str) -> Result<(), OutOfMemory>
     ensures { OnOk result (chars (string_bytes word.new) ≡ chars (string_bytes word.old)
         ++ escaped (chars text.now)) }
 {
-    if !has_escaped(text) {
-        return push_text(word, text);
-    }
     let mut rest = text;
-    while let Some((c, after)) = first_char(rest) {
-        push_escape(word, c)?;
+    while let Some((line, after)) = cut_at_feed(rest) {
+        push_escaped_line(word, line)?;
+        push_escape(word, '\n')?;
         rest = after;
     }
-    Ok(())
+    push_escaped_line(word, rest)
 }
 
 /// The text that the word spells, read from left to right. None exactly where it has a wrong escape: a backslash
@@ -69,18 +71,42 @@ fn spelled_text(alloc: Global, word: &str) -> Result<Option<Text>, OutOfMemory>
     Ok(Some(Text::from(text)))
 }
 
-// Whether a text has a character that is written by an escape.
-fn has_escaped(text: &str) -> bool
-    ensures { result ≡ list_any is_escaped text.now }
+// What stands before the first line feed of a text, and what stands behind it; None where it has none.
+fn cut_at_feed(text: &str) -> Option<(&str, &str)>
+    ensures parts { MatchOption result (has_line_feed text.now ≡ false)
+        (λ p. chars text.now ≡ chars p.0.now ++ line_feed ∷ chars p.1.now) }
+    ensures front { IfSome result (λ p. has_line_feed p.0.now ≡ false) }
+    ensures shorter { IfSome result (λ p. length p.1.now < length text.now) }
 {
-    text.as_bytes().iter().any(|b| is_escaped(*b))
+    match first_line_feed(text.as_bytes()) {
+        Some(place) => Some((&text[..place], &text[place + 1..])),
+        None => None,
+    }
 }
 
-// Whether a byte is a character that is written by an escape.
-fn is_escaped(b: u8) -> bool
-    ensures { result ≡ is_escaped b }
+// Appends a text without a line feed as it is written in a word. One in which nothing is escaped is copied whole.
+fn push_escaped_line(word: &mut String, line: &str) -> Result<(), OutOfMemory>
+    requires { has_line_feed line.now ≡ false }
+    ensures { OnOk result (chars (string_bytes word.new) ≡ chars (string_bytes word.old)
+        ++ escaped (chars line.now)) }
 {
-    b == b'\\' || b == b'\t' || b == b'\n' || b == b'\r'
+    if !has_escaped(line) {
+        return push_text(word, line);
+    }
+    let mut rest = line;
+    while let Some((c, after)) = first_char(rest) {
+        push_escape(word, c)?;
+        rest = after;
+    }
+    Ok(())
+}
+
+// Whether a text without a line feed has a character that is written by an escape.
+fn has_escaped(line: &str) -> bool
+    requires { has_line_feed line.now ≡ false }
+    ensures { result ≡ list_any is_escaped line.now }
+{
+    memchr3(b'\\', b'\t', b'\r', line.as_bytes()).is_some()
 }
 
 // Writes a character as it stands in a word.
