@@ -1,5 +1,4 @@
 pub mod Command
-pub mod Kinds
 pub mod Reply
 pub mod Styling
 pub mod Words

@@ -1,41 +1,36 @@
-ghost use Rattle.std.specs.Prelude.{◌≡◌, ◌⊎◌, IfOk, OnErr, chars, false, option_map, true};
+ghost use Rattle.std.specs.Prelude.{◌≡◌, ◌⊎◌, [], IfOk, OnErr, chars, false, option_map, true};
 ghost use Rattle.ic_laws.specs.Lines.{words_of};
 ghost use Rattle.ic_tables.specs.Words.{error_words};
 ghost use Rattle.ic_machine.specs.Command.{command_in, commands};
 ghost use Rattle.ic_machine.specs.Row.{joined, named};
 ghost use Rattle.ic_words.specs.Command.{command_meant};
-ghost use Rattle.ic_words.specs.Kinds.{IsCommandKind};
 ghost use Rattle.ic_words.specs.Words.{CopyValues, HaveEscape, copies_values, words_left};
 
 pub mod arrays;
 pub mod definitions;
 pub mod extending;
-mod kind;
 pub mod layout;
 pub mod notation;
 pub mod reading;
-mod shapes;
 pub mod sheets;
 pub mod styles;
 pub mod tabs;
 pub mod writing;
 
 use crate::words::first_word;
-use arrays::{Arrays, arrays_named, spill_put, value_put};
-use definitions::{Definitions, definitions_named};
-use extending::{Extending, extending_named};
+use arrays::{Arrays, arrays_in, spill_put, value_put};
+use definitions::{Definitions, definitions_in};
+use extending::{Extending, extending_in};
 use ic_laws::OutOfMemory;
 use ic_tables::Language;
-use kind::Kind;
-use layout::{Layout, layout_named};
-use notation::{Notation, notation_named};
-use reading::{Reading, reading_named};
-use shapes::command_of;
-use sheets::{Sheets, sheets_named};
+use layout::{Layout, layout_in};
+use notation::{Notation, notation_in};
+use reading::{Reading, reading_in};
+use sheets::{Sheets, sheets_in};
 use std::alloc::Global;
-use styles::{Styles, styles_named};
-use tabs::{Tabs, tabs_named};
-use writing::{Writing, writing_named};
+use styles::{Styles, styles_in};
+use tabs::{Tabs, tabs_in};
+use writing::{Writing, writing_in};
 
 /// A command, by its subject. Sheets are told by their index from 0 in the order of the book, or by name or id; rows and
 /// columns count from 1. The scope of a definition is the index of a sheet, or None where it is the whole book.
@@ -52,6 +47,10 @@ pub enum Command<'l> {
     Tabs(Tabs<'l>),
     Arrays(Arrays<'l>),
 }
+
+/// A command of one subject, by a name and the words after it: None where the subject lacks the name, and None inside
+/// where the words don't fit the command.
+type Made<C> = Result<Option<Option<C>>, OutOfMemory>;
 
 /// The command that a line is, where this is the language `en`; None where it is none: another name, fewer or
 /// more words, a number that isn't one of its type, a value that is none, or a wrong escape. Memory is asked for only for a
@@ -86,43 +85,80 @@ fn command_named<'l>(
     match name {
         "put_formula_value" => value_put(alloc, english, rest),
         "put_spill" => spill_put(alloc, english, rest),
-        _ => match kind_named(name) {
-            Some(kind) => command_of(alloc, kind, rest),
-            None => Ok(None),
-        },
+        _ => plain_command(alloc, name, rest),
     }
 }
 
-/// The kind of the command of this name, where its words aren't values: that of the one subject that has the name.
-fn kind_named(name: &str) -> Option<Kind>
-    ensures { copies_values name.now ≡ false → IsCommandKind (chars name.now) result }
+/// The command of this name, where its words aren't values: that of the one subject that has the name.
+fn plain_command<'l>(
+    alloc: Global,
+    name: &str,
+    rest: Option<&'l str>,
+) -> Result<Option<Command<'l>>, OutOfMemory>
+    ensures exact { copies_values name.now ≡ false → IfOk result
+        (λ command. option_map command_meant command
+        ≡ joined (named [] commands name.now (words_left rest.entry))) }
+    ensures memory { OnErr result (HaveEscape (words_left rest.entry)) }
 {
-    if let Some(kind) = sheets_named(name) {
-        return Some(kind);
+    if let Some(sheets) = sheets_in(alloc, name, rest)? {
+        return match sheets {
+            Some(command) => Ok(Some(Command::Sheets(command))),
+            None => Ok(None),
+        };
     }
-    if let Some(kind) = definitions_named(name) {
-        return Some(kind);
+    if let Some(definitions) = definitions_in(alloc, name, rest)? {
+        return match definitions {
+            Some(command) => Ok(Some(Command::Definitions(command))),
+            None => Ok(None),
+        };
     }
-    if let Some(kind) = notation_named(name) {
-        return Some(kind);
+    if let Some(notation) = notation_in(alloc, name, rest)? {
+        return match notation {
+            Some(command) => Ok(Some(Command::Notation(command))),
+            None => Ok(None),
+        };
     }
-    if let Some(kind) = writing_named(name) {
-        return Some(kind);
+    if let Some(writing) = writing_in(alloc, name, rest)? {
+        return match writing {
+            Some(command) => Ok(Some(Command::Writing(command))),
+            None => Ok(None),
+        };
     }
-    if let Some(kind) = reading_named(name) {
-        return Some(kind);
+    if let Some(reading) = reading_in(alloc, name, rest)? {
+        return match reading {
+            Some(command) => Ok(Some(Command::Reading(command))),
+            None => Ok(None),
+        };
     }
-    if let Some(kind) = extending_named(name) {
-        return Some(kind);
+    if let Some(extending) = extending_in(alloc, name, rest)? {
+        return match extending {
+            Some(command) => Ok(Some(Command::Extending(command))),
+            None => Ok(None),
+        };
     }
-    if let Some(kind) = styles_named(name) {
-        return Some(kind);
+    if let Some(styles) = styles_in(alloc, name, rest)? {
+        return match styles {
+            Some(command) => Ok(Some(Command::Styles(command))),
+            None => Ok(None),
+        };
     }
-    if let Some(kind) = layout_named(name) {
-        return Some(kind);
+    if let Some(layout) = layout_in(alloc, name, rest)? {
+        return match layout {
+            Some(command) => Ok(Some(Command::Layout(command))),
+            None => Ok(None),
+        };
     }
-    if let Some(kind) = tabs_named(name) {
-        return Some(kind);
+    if let Some(tabs) = tabs_in(alloc, name, rest)? {
+        return match tabs {
+            Some(command) => Ok(Some(Command::Tabs(command))),
+            None => Ok(None),
+        };
     }
-    arrays_named(name)
+    if let Some(arrays) = arrays_in(alloc, name, rest)? {
+        return match arrays {
+            Some(command) => Ok(Some(Command::Arrays(command))),
+            None => Ok(None),
+        };
+    }
+    Ok(None)
 }

@@ -1,8 +1,9 @@
 //! Command lines read into commands, and replies written: what the program and the book share.
 //!
-//! A name gives the kind of its command, by what its words are; words are read by their shape and fields are written
-//! by one function each. A word is taken where it stands in its line, and only a text with an escape and the text of a value
-//! are copied. What each reader answers is by the table of `ic_machine/specs/Command`, both ways.
+//! Each subject has one function that finds a name and makes its command of what the words after it say. Words are read
+//! by their shape, and fields are written by one function each. A word is taken where it stands in its line, and only a
+//! text with an escape and the text of a value are copied. What each reader answers is by the table of
+//! `ic_machine/specs/Command`, both ways.
 #![tactic(auto)]
 
 mod choices;

@@ -1,16 +1,16 @@
-ghost use Rattle.std.specs.Prelude.{◌≡◌, IfOk, false, option_map};
+ghost use Rattle.std.specs.Prelude.{◌≡◌, [], IfOk, OnErr, false, option_map};
 ghost use Rattle.ic_tables.specs.Words.{error_words};
 ghost use Rattle.ic_machine.specs.Command.{OnArrays};
+ghost use Rattle.ic_machine.specs.Row.{named};
 ghost use Rattle.ic_machine.specs.subjects.Arrays.{array_rows};
 ghost use Rattle.ic_words.specs.Command.{command_meant};
-ghost use Rattle.ic_words.specs.Kinds.{IsKind};
-ghost use Rattle.ic_words.specs.Words.{copies_values, words_left};
-ghost use Rattle.ic_words.specs.subjects.Arrays.{spill_put_said, value_put_said};
+ghost use Rattle.ic_words.specs.Words.{HaveEscape, copies_values, words_left};
+ghost use Rattle.ic_words.specs.subjects.Arrays.{arrays_meant, spill_put_said, value_put_said};
 
-use crate::command::Command;
-use crate::command::kind::{InArea, Kind, TextInArea};
+use crate::command::{Command, Made};
 use crate::text::WordText;
 use crate::values::ValueWords;
+use crate::words::Words;
 use ic_cells::{FormulaValue, SpillValue};
 use ic_laws::OutOfMemory;
 use ic_refs::Area;
@@ -50,20 +50,49 @@ pub enum Arrays<'l> {
     },
 }
 
-/// The kind of the command on arrays, spills and clearing of this name, but for those whose words are values.
-pub(crate) fn arrays_named(name: &str) -> Option<Kind>
-    ensures { copies_values name.now ≡ false → IsKind OnArrays array_rows name.now result }
+/// The command on arrays, spills and clearing of this name, by the words that are left, unless they are values.
+pub(crate) fn arrays_in<'l>(alloc: Global, name: &str, rest: Option<&'l str>) -> Made<Arrays<'l>>
+    ensures exact { copies_values name.now ≡ false → IfOk result
+        (λ made. option_map (option_map arrays_meant) made
+        ≡ named [] array_rows name.now (words_left rest.entry)) }
+    ensures memory { OnErr result (HaveEscape (words_left rest.entry)) }
 {
     match name {
-        "set_user_array_formula" => Some(Kind::TextInArea(TextInArea::SetUserArrayFormula)),
-        "range_clear_contents" => Some(Kind::InArea(InArea::RangeClearContents)),
-        "range_clear_all" => Some(Kind::InArea(InArea::RangeClearAll)),
-        _ => None,
+        "set_user_array_formula" => match Words::of(alloc, rest)? {
+            Some((sheet, (row, (column, (width, (height, (text, ()))))))) => Ok(Some(Some(
+                Arrays::SetUserArrayFormula {
+                    sheet,
+                    row,
+                    column,
+                    width,
+                    height,
+                    text,
+                },
+            ))),
+            None => Ok(Some(None)),
+        },
+        "range_clear_contents" => match Words::of(alloc, rest)? {
+            Some((sheet, (row, (column, (width, (height, ())))))) => Ok(Some(Some(
+                Arrays::RangeClearContents {
+                    range: area(sheet, row, column, width, height),
+                },
+            ))),
+            None => Ok(Some(None)),
+        },
+        "range_clear_all" => match Words::of(alloc, rest)? {
+            Some((sheet, (row, (column, (width, (height, ())))))) => Ok(Some(Some(
+                Arrays::RangeClearAll {
+                    area: area(sheet, row, column, width, height),
+                },
+            ))),
+            None => Ok(Some(None)),
+        },
+        _ => Ok(None),
     }
 }
 
 /// The area of so many columns and rows from a row and a column on, of the sheet at an index.
-pub(crate) fn area(sheet: u32, row: i32, column: i32, width: i32, height: i32) -> Area
+fn area(sheet: u32, row: i32, column: i32, width: i32, height: i32) -> Area
     ensures { result ≡ record {
       sheet = sheet;
       row = row;

@@ -1,9 +1,15 @@
-ghost use Rattle.ic_machine.specs.Command.{OnDefinitions};
+ghost use Rattle.std.specs.Prelude.{◌≡◌, [], IfOk, OnErr, option_map};
+ghost use Rattle.ic_machine.specs.Row.{named};
+ghost use Rattle.ic_machine.specs.Word.{Done, OfScope, OfText, Then};
 ghost use Rattle.ic_machine.specs.subjects.Definitions.{definition_rows};
-ghost use Rattle.ic_words.specs.Kinds.{IsKind};
+ghost use Rattle.ic_words.specs.Words.{HaveEscape, words_left};
+ghost use Rattle.ic_words.specs.subjects.Definitions.{definitions_meant, update_words};
 
-use crate::command::kind::{Kind, ScopedBody, ScopedName, UpdatedBody, Wordless};
+use crate::command::Made;
 use crate::text::WordText;
+use crate::words::Words;
+use ic_laws::OutOfMemory;
+use std::alloc::Global;
 
 /// An update of a definition: its name and scope, and those that it gets with a new body. A scope is the index from 0 of
 /// a sheet, or None where it is the whole book.
@@ -27,6 +33,30 @@ impl Drop for DefinitionUpdate<'_> {
         drop(name);
         drop(new_name);
         drop(body);
+    }
+}
+
+impl<'l> Words<'l> for DefinitionUpdate<'l> {
+    ghost forms = { Then OfText (Then OfScope (Then OfText (Then OfScope (Then OfText Done)))) };
+
+    ghost says = { update_words };
+
+    fn of(
+        alloc: Global,
+        rest: Option<&'l str>,
+    ) -> Result<Option<DefinitionUpdate<'l>>, OutOfMemory> {
+        match Words::of(alloc, rest)? {
+            Some((name, (scope, (new_name, (new_scope, (body, ())))))) => Ok(Some(
+                DefinitionUpdate {
+                    name,
+                    scope,
+                    new_name,
+                    new_scope,
+                    body,
+                },
+            )),
+            None => Ok(None),
+        }
     }
 }
 
@@ -56,17 +86,52 @@ pub enum Definitions<'l> {
     GetDefinedNameList,
 }
 
-/// The kind of the command on definitions of this name.
-pub(crate) fn definitions_named(name: &str) -> Option<Kind>
-    ensures { IsKind OnDefinitions definition_rows name.now result }
+/// The command on definitions of this name, by the words that are left.
+pub(crate) fn definitions_in<'l>(
+    alloc: Global,
+    name: &str,
+    rest: Option<&'l str>,
+) -> Made<Definitions<'l>>
+    ensures exact { IfOk result (λ made. option_map (option_map definitions_meant) made
+        ≡ named [] definition_rows name.now (words_left rest.entry)) }
+    ensures memory { OnErr result (HaveEscape (words_left rest.entry)) }
 {
     match name {
-        "new_defined_name" => Some(Kind::ScopedBody(ScopedBody::NewDefinedName)),
-        "delete_defined_name" => Some(Kind::ScopedName(ScopedName::DeleteDefinedName)),
-        "update_defined_name" => Some(Kind::UpdatedBody(UpdatedBody::UpdateDefinedName)),
-        "would_capture" => Some(Kind::UpdatedBody(UpdatedBody::WouldCapture)),
-        "is_valid_defined_name" => Some(Kind::ScopedBody(ScopedBody::IsValidDefinedName)),
-        "get_defined_name_list" => Some(Kind::Wordless(Wordless::GetDefinedNameList)),
-        _ => None,
+        "new_defined_name" => match Words::of(alloc, rest)? {
+            Some((name, (scope, (body, ())))) => Ok(Some(Some(Definitions::NewDefinedName {
+                name,
+                scope,
+                body,
+            }))),
+            None => Ok(Some(None)),
+        },
+        "delete_defined_name" => match Words::of(alloc, rest)? {
+            Some((name, (scope, ()))) => Ok(Some(Some(Definitions::DeleteDefinedName {
+                name,
+                scope,
+            }))),
+            None => Ok(Some(None)),
+        },
+        "update_defined_name" => match Words::of(alloc, rest)? {
+            Some(update) => Ok(Some(Some(Definitions::UpdateDefinedName { update }))),
+            None => Ok(Some(None)),
+        },
+        "would_capture" => match Words::of(alloc, rest)? {
+            Some(update) => Ok(Some(Some(Definitions::WouldCapture { update }))),
+            None => Ok(Some(None)),
+        },
+        "is_valid_defined_name" => match Words::of(alloc, rest)? {
+            Some((name, (scope, (body, ())))) => Ok(Some(Some(Definitions::IsValidDefinedName {
+                name,
+                scope,
+                body,
+            }))),
+            None => Ok(Some(None)),
+        },
+        "get_defined_name_list" => match Words::of(alloc, rest)? {
+            Some(()) => Ok(Some(Some(Definitions::GetDefinedNameList))),
+            None => Ok(Some(None)),
+        },
+        _ => Ok(None),
     }
 }

@@ -1,11 +1,14 @@
-ghost use Rattle.std.specs.Prelude.{◌≡◌};
-ghost use Rattle.ic_machine.specs.Command.{OnExtending};
+ghost use Rattle.std.specs.Prelude.{◌≡◌, [], IfOk, OnErr, option_map};
+ghost use Rattle.ic_machine.specs.Row.{named};
 ghost use Rattle.ic_machine.specs.subjects.Extending.{extending_rows};
-ghost use Rattle.ic_words.specs.Kinds.{IsKind};
+ghost use Rattle.ic_words.specs.Words.{HaveEscape, words_left};
+ghost use Rattle.ic_words.specs.subjects.Extending.{extending_meant};
 
-use crate::command::kind::{InArea, Kind, OneText, TextBetweenCells};
+use crate::command::Made;
 use crate::text::WordText;
+use crate::words::Words;
 use ic_refs::CellReferenceIndex;
+use std::alloc::Global;
 
 /// A command that writes a formula out for another cell, or the one that reads the name of a cell.
 #[derive(Drop)]
@@ -27,20 +30,50 @@ pub enum Extending<'l> {
     },
 }
 
-/// The kind of the command of this name that writes a formula out for another cell or reads the name of a cell.
-pub(crate) fn extending_named(name: &str) -> Option<Kind>
-    ensures { IsKind OnExtending extending_rows name.now result }
+/// The command of this name that writes a formula out for another cell or reads the name of a cell, by the words that
+/// are left.
+pub(crate) fn extending_in<'l>(
+    alloc: Global,
+    name: &str,
+    rest: Option<&'l str>,
+) -> Made<Extending<'l>>
+    ensures exact { IfOk result (λ made. option_map (option_map extending_meant) made
+        ≡ named [] extending_rows name.now (words_left rest.entry)) }
+    ensures memory { OnErr result (HaveEscape (words_left rest.entry)) }
 {
     match name {
-        "extend_to" => Some(Kind::InArea(InArea::ExtendTo)),
-        "extend_copied_value" => Some(Kind::TextBetweenCells(TextBetweenCells::ExtendCopiedValue)),
-        "parse_reference" => Some(Kind::OneText(OneText::ParseReference)),
-        _ => None,
+        "extend_to" => match Words::of(alloc, rest)? {
+            Some((sheet, (row, (column, (target_row, (target_column, ())))))) => Ok(Some(Some(
+                Extending::ExtendTo {
+                    sheet,
+                    row,
+                    column,
+                    target_row,
+                    target_column,
+                },
+            ))),
+            None => Ok(Some(None)),
+        },
+        "extend_copied_value" => match Words::of(alloc, rest)? {
+            Some((text, (sheet, (row, (column, (to_sheet, (to_row, (to_column, ())))))))) => Ok(
+                Some(Some(Extending::ExtendCopiedValue {
+                    text,
+                    source: cell_at(sheet, row, column),
+                    target: cell_at(to_sheet, to_row, to_column),
+                })),
+            ),
+            None => Ok(Some(None)),
+        },
+        "parse_reference" => match Words::of(alloc, rest)? {
+            Some((text, ())) => Ok(Some(Some(Extending::ParseReference { text }))),
+            None => Ok(Some(None)),
+        },
+        _ => Ok(None),
     }
 }
 
 /// The cell of the sheet at an index, at a row and a column.
-pub(crate) fn cell_at(sheet: u32, row: i32, column: i32) -> CellReferenceIndex
+fn cell_at(sheet: u32, row: i32, column: i32) -> CellReferenceIndex
     ensures { result ≡ record { sheet = sheet; row = row; column = column } }
 {
     CellReferenceIndex { sheet, row, column }

@@ -1,8 +1,12 @@
-ghost use Rattle.ic_machine.specs.Command.{OnLayout};
+ghost use Rattle.std.specs.Prelude.{◌≡◌, [], IfOk, OnErr, option_map};
+ghost use Rattle.ic_machine.specs.Row.{named};
 ghost use Rattle.ic_machine.specs.subjects.Layout.{layout_rows};
-ghost use Rattle.ic_words.specs.Kinds.{IsKind};
+ghost use Rattle.ic_words.specs.Words.{HaveEscape, words_left};
+ghost use Rattle.ic_words.specs.subjects.Layout.{layout_meant};
 
-use crate::command::kind::{HiddenLine, Kind, OnLine, SizedLine};
+use crate::command::Made;
+use crate::words::Words;
+use std::alloc::Global;
 
 /// A command on the widths of columns, the heights of rows, and which of them are hidden. Widths and heights are in
 /// hundredths.
@@ -46,19 +50,61 @@ pub enum Layout {
     },
 }
 
-/// The kind of the command on the layout of rows and columns of this name.
-pub(crate) fn layout_named(name: &str) -> Option<Kind>
-    ensures { IsKind OnLayout layout_rows name.now result }
+/// The command on the layout of rows and columns of this name, by the words that are left.
+pub(crate) fn layout_in(alloc: Global, name: &str, rest: Option<&str>) -> Made<Layout>
+    ensures exact { IfOk result (λ made. option_map (option_map layout_meant) made
+        ≡ named [] layout_rows name.now (words_left rest.entry)) }
+    ensures memory { OnErr result (HaveEscape (words_left rest.entry)) }
 {
     match name {
-        "set_column_width" => Some(Kind::SizedLine(SizedLine::SetColumnWidth)),
-        "set_row_height" => Some(Kind::SizedLine(SizedLine::SetRowHeight)),
-        "get_column_width" => Some(Kind::OnLine(OnLine::GetColumnWidth)),
-        "get_row_height" => Some(Kind::OnLine(OnLine::GetRowHeight)),
-        "set_column_hidden" => Some(Kind::HiddenLine(HiddenLine::SetColumnHidden)),
-        "set_row_hidden" => Some(Kind::HiddenLine(HiddenLine::SetRowHidden)),
-        "is_column_hidden" => Some(Kind::OnLine(OnLine::IsColumnHidden)),
-        "is_row_hidden" => Some(Kind::OnLine(OnLine::IsRowHidden)),
-        _ => None,
+        "set_column_width" => match Words::of(alloc, rest)? {
+            Some((sheet, (column, (width, ())))) => Ok(Some(Some(Layout::SetColumnWidth {
+                sheet,
+                column,
+                width,
+            }))),
+            None => Ok(Some(None)),
+        },
+        "set_row_height" => match Words::of(alloc, rest)? {
+            Some((sheet, (row, (height, ())))) => Ok(Some(Some(Layout::SetRowHeight {
+                sheet,
+                row,
+                height,
+            }))),
+            None => Ok(Some(None)),
+        },
+        "get_column_width" => match Words::of(alloc, rest)? {
+            Some((sheet, (column, ()))) => Ok(Some(Some(Layout::GetColumnWidth { sheet, column }))),
+            None => Ok(Some(None)),
+        },
+        "get_row_height" => match Words::of(alloc, rest)? {
+            Some((sheet, (row, ()))) => Ok(Some(Some(Layout::GetRowHeight { sheet, row }))),
+            None => Ok(Some(None)),
+        },
+        "set_column_hidden" => match Words::of(alloc, rest)? {
+            Some((sheet, (column, (hidden, ())))) => Ok(Some(Some(Layout::SetColumnHidden {
+                sheet,
+                column,
+                hidden,
+            }))),
+            None => Ok(Some(None)),
+        },
+        "set_row_hidden" => match Words::of(alloc, rest)? {
+            Some((sheet, (row, (hidden, ())))) => Ok(Some(Some(Layout::SetRowHidden {
+                sheet,
+                row,
+                hidden,
+            }))),
+            None => Ok(Some(None)),
+        },
+        "is_column_hidden" => match Words::of(alloc, rest)? {
+            Some((sheet, (column, ()))) => Ok(Some(Some(Layout::IsColumnHidden { sheet, column }))),
+            None => Ok(Some(None)),
+        },
+        "is_row_hidden" => match Words::of(alloc, rest)? {
+            Some((sheet, (row, ()))) => Ok(Some(Some(Layout::IsRowHidden { sheet, row }))),
+            None => Ok(Some(None)),
+        },
+        _ => Ok(None),
     }
 }

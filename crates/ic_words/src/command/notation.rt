@@ -1,9 +1,13 @@
-ghost use Rattle.ic_machine.specs.Command.{OnNotation};
+ghost use Rattle.std.specs.Prelude.{◌≡◌, [], IfOk, OnErr, option_map};
+ghost use Rattle.ic_machine.specs.Row.{named};
 ghost use Rattle.ic_machine.specs.subjects.Notation.{notation_rows};
-ghost use Rattle.ic_words.specs.Kinds.{IsKind};
+ghost use Rattle.ic_words.specs.Words.{HaveEscape, words_left};
+ghost use Rattle.ic_words.specs.subjects.Notation.{notation_meant};
 
-use crate::command::kind::{Kind, OneText, Wordless};
+use crate::command::Made;
 use crate::text::WordText;
+use crate::words::Words;
+use std::alloc::Global;
 
 /// A command on the locale, the language and the time zone.
 #[derive(Drop)]
@@ -17,18 +21,45 @@ pub enum Notation<'l> {
     GetFmtSettings,
 }
 
-/// The kind of the command on the locale, the language and the time zone of this name.
-pub(crate) fn notation_named(name: &str) -> Option<Kind>
-    ensures { IsKind OnNotation notation_rows name.now result }
+/// The command on the locale, the language and the time zone of this name, by the words that are left.
+pub(crate) fn notation_in<'l>(
+    alloc: Global,
+    name: &str,
+    rest: Option<&'l str>,
+) -> Made<Notation<'l>>
+    ensures exact { IfOk result (λ made. option_map (option_map notation_meant) made
+        ≡ named [] notation_rows name.now (words_left rest.entry)) }
+    ensures memory { OnErr result (HaveEscape (words_left rest.entry)) }
 {
     match name {
-        "set_locale" => Some(Kind::OneText(OneText::SetLocale)),
-        "set_language" => Some(Kind::OneText(OneText::SetLanguage)),
-        "set_timezone" => Some(Kind::OneText(OneText::SetTimezone)),
-        "get_locale" => Some(Kind::Wordless(Wordless::GetLocale)),
-        "get_language" => Some(Kind::Wordless(Wordless::GetLanguage)),
-        "get_timezone" => Some(Kind::Wordless(Wordless::GetTimezone)),
-        "get_fmt_settings" => Some(Kind::Wordless(Wordless::GetFmtSettings)),
-        _ => None,
+        "set_locale" => match Words::of(alloc, rest)? {
+            Some((id, ())) => Ok(Some(Some(Notation::SetLocale { id }))),
+            None => Ok(Some(None)),
+        },
+        "set_language" => match Words::of(alloc, rest)? {
+            Some((id, ())) => Ok(Some(Some(Notation::SetLanguage { id }))),
+            None => Ok(Some(None)),
+        },
+        "set_timezone" => match Words::of(alloc, rest)? {
+            Some((id, ())) => Ok(Some(Some(Notation::SetTimezone { id }))),
+            None => Ok(Some(None)),
+        },
+        "get_locale" => match Words::of(alloc, rest)? {
+            Some(()) => Ok(Some(Some(Notation::GetLocale))),
+            None => Ok(Some(None)),
+        },
+        "get_language" => match Words::of(alloc, rest)? {
+            Some(()) => Ok(Some(Some(Notation::GetLanguage))),
+            None => Ok(Some(None)),
+        },
+        "get_timezone" => match Words::of(alloc, rest)? {
+            Some(()) => Ok(Some(Some(Notation::GetTimezone))),
+            None => Ok(Some(None)),
+        },
+        "get_fmt_settings" => match Words::of(alloc, rest)? {
+            Some(()) => Ok(Some(Some(Notation::GetFmtSettings))),
+            None => Ok(Some(None)),
+        },
+        _ => Ok(None),
     }
 }

@@ -1,9 +1,13 @@
-ghost use Rattle.ic_machine.specs.Command.{OnReading};
+ghost use Rattle.std.specs.Prelude.{◌≡◌, [], IfOk, OnErr, option_map};
+ghost use Rattle.ic_machine.specs.Row.{named};
 ghost use Rattle.ic_machine.specs.subjects.Reading.{reading_rows};
-ghost use Rattle.ic_words.specs.Kinds.{IsKind};
+ghost use Rattle.ic_words.specs.Words.{HaveEscape, words_left};
+ghost use Rattle.ic_words.specs.subjects.Reading.{reading_meant};
 
-use crate::command::kind::{InCell, Kind, OneIndex, OneText, Wordless};
+use crate::command::Made;
 use crate::text::WordText;
+use crate::words::Words;
+use std::alloc::Global;
 
 /// A command that reads cells.
 #[derive(Drop)]
@@ -19,20 +23,73 @@ pub enum Reading<'l> {
     GetSheetMarkup { sheet: u32 },
 }
 
-/// The kind of the command that reads cells of this name.
-pub(crate) fn reading_named(name: &str) -> Option<Kind>
-    ensures { IsKind OnReading reading_rows name.now result }
+/// The command of this name that reads cells, by the words that are left.
+pub(crate) fn reading_in<'l>(alloc: Global, name: &str, rest: Option<&'l str>) -> Made<Reading<'l>>
+    ensures exact { IfOk result (λ made. option_map (option_map reading_meant) made
+        ≡ named [] reading_rows name.now (words_left rest.entry)) }
+    ensures memory { OnErr result (HaveEscape (words_left rest.entry)) }
 {
     match name {
-        "get_cell_formula" => Some(Kind::InCell(InCell::GetCellFormula)),
-        "get_localized_cell_content" => Some(Kind::InCell(InCell::GetLocalizedCellContent)),
-        "get_formatted_cell_value" => Some(Kind::InCell(InCell::GetFormattedCellValue)),
-        "get_cell_value_by_index" => Some(Kind::InCell(InCell::GetCellValueByIndex)),
-        "get_cell_value_by_ref" => Some(Kind::OneText(OneText::GetCellValueByRef)),
-        "get_cell_type" => Some(Kind::InCell(InCell::GetCellType)),
-        "is_empty_cell" => Some(Kind::InCell(InCell::IsEmptyCell)),
-        "get_all_cells" => Some(Kind::Wordless(Wordless::GetAllCells)),
-        "get_sheet_markup" => Some(Kind::OneIndex(OneIndex::GetSheetMarkup)),
-        _ => None,
+        "get_cell_formula" => match Words::of(alloc, rest)? {
+            Some((sheet, (row, (column, ())))) => Ok(Some(Some(Reading::GetCellFormula {
+                sheet,
+                row,
+                column,
+            }))),
+            None => Ok(Some(None)),
+        },
+        "get_localized_cell_content" => match Words::of(alloc, rest)? {
+            Some((sheet, (row, (column, ())))) => Ok(Some(Some(Reading::GetLocalizedCellContent {
+                sheet,
+                row,
+                column,
+            }))),
+            None => Ok(Some(None)),
+        },
+        "get_formatted_cell_value" => match Words::of(alloc, rest)? {
+            Some((sheet, (row, (column, ())))) => Ok(Some(Some(Reading::GetFormattedCellValue {
+                sheet,
+                row,
+                column,
+            }))),
+            None => Ok(Some(None)),
+        },
+        "get_cell_value_by_index" => match Words::of(alloc, rest)? {
+            Some((sheet, (row, (column, ())))) => Ok(Some(Some(Reading::GetCellValueByIndex {
+                sheet,
+                row,
+                column,
+            }))),
+            None => Ok(Some(None)),
+        },
+        "get_cell_value_by_ref" => match Words::of(alloc, rest)? {
+            Some((text, ())) => Ok(Some(Some(Reading::GetCellValueByRef { text }))),
+            None => Ok(Some(None)),
+        },
+        "get_cell_type" => match Words::of(alloc, rest)? {
+            Some((sheet, (row, (column, ())))) => Ok(Some(Some(Reading::GetCellType {
+                sheet,
+                row,
+                column,
+            }))),
+            None => Ok(Some(None)),
+        },
+        "is_empty_cell" => match Words::of(alloc, rest)? {
+            Some((sheet, (row, (column, ())))) => Ok(Some(Some(Reading::IsEmptyCell {
+                sheet,
+                row,
+                column,
+            }))),
+            None => Ok(Some(None)),
+        },
+        "get_all_cells" => match Words::of(alloc, rest)? {
+            Some(()) => Ok(Some(Some(Reading::GetAllCells))),
+            None => Ok(Some(None)),
+        },
+        "get_sheet_markup" => match Words::of(alloc, rest)? {
+            Some((sheet, ())) => Ok(Some(Some(Reading::GetSheetMarkup { sheet }))),
+            None => Ok(Some(None)),
+        },
+        _ => Ok(None),
     }
 }

@@ -1,11 +1,13 @@
-ghost use Rattle.ic_machine.specs.Command.{OnSheets};
+ghost use Rattle.std.specs.Prelude.{◌≡◌, [], IfOk, OnErr, option_map};
+ghost use Rattle.ic_machine.specs.Row.{named};
 ghost use Rattle.ic_machine.specs.subjects.Sheets.{sheet_rows};
-ghost use Rattle.ic_words.specs.Kinds.{IsKind};
+ghost use Rattle.ic_words.specs.Words.{HaveEscape, words_left};
+ghost use Rattle.ic_words.specs.subjects.Sheets.{sheets_meant};
 
-use crate::command::kind::{
-    IndexedText, Kind, OneIndex, OneText, PlacedName, TwoIndexes, TwoTexts, Wordless,
-};
+use crate::command::Made;
 use crate::text::WordText;
+use crate::words::Words;
+use std::alloc::Global;
 
 /// A command on the list of sheets. An id is None where the sheet gets a fresh one.
 #[derive(Drop)]
@@ -47,23 +49,65 @@ pub enum Sheets<'l> {
     GetWorksheetsProperties,
 }
 
-/// The kind of the command on the list of sheets of this name.
-pub(crate) fn sheets_named(name: &str) -> Option<Kind>
-    ensures { IsKind OnSheets sheet_rows name.now result }
+/// The command on the list of sheets of this name, by the words that are left.
+pub(crate) fn sheets_in<'l>(alloc: Global, name: &str, rest: Option<&'l str>) -> Made<Sheets<'l>>
+    ensures exact { IfOk result (λ made. option_map (option_map sheets_meant) made
+        ≡ named [] sheet_rows name.now (words_left rest.entry)) }
+    ensures memory { OnErr result (HaveEscape (words_left rest.entry)) }
 {
     match name {
-        "add_sheet" => Some(Kind::OneText(OneText::AddSheet)),
-        "insert_sheet" => Some(Kind::PlacedName(PlacedName::InsertSheet)),
-        "new_sheet" => Some(Kind::Wordless(Wordless::NewSheet)),
-        "duplicate_sheet" => Some(Kind::OneIndex(OneIndex::DuplicateSheet)),
-        "rename_sheet" => Some(Kind::TwoTexts(TwoTexts::RenameSheet)),
-        "rename_sheet_by_index" => Some(Kind::IndexedText(IndexedText::RenameSheetByIndex)),
-        "move_sheet" => Some(Kind::TwoIndexes(TwoIndexes::MoveSheet)),
-        "delete_sheet" => Some(Kind::OneIndex(OneIndex::DeleteSheet)),
-        "delete_sheet_by_name" => Some(Kind::OneText(OneText::DeleteSheetByName)),
-        "delete_sheet_by_sheet_id" => Some(Kind::OneIndex(OneIndex::DeleteSheetBySheetId)),
-        "get_new_sheet_id" => Some(Kind::Wordless(Wordless::GetNewSheetId)),
-        "get_worksheets_properties" => Some(Kind::Wordless(Wordless::GetWorksheetsProperties)),
-        _ => None,
+        "add_sheet" => match Words::of(alloc, rest)? {
+            Some((name, ())) => Ok(Some(Some(Sheets::AddSheet { name }))),
+            None => Ok(Some(None)),
+        },
+        "insert_sheet" => match Words::of(alloc, rest)? {
+            Some((name, (index, (id, ())))) => Ok(Some(Some(Sheets::InsertSheet {
+                name,
+                index,
+                id,
+            }))),
+            None => Ok(Some(None)),
+        },
+        "new_sheet" => match Words::of(alloc, rest)? {
+            Some(()) => Ok(Some(Some(Sheets::NewSheet))),
+            None => Ok(Some(None)),
+        },
+        "duplicate_sheet" => match Words::of(alloc, rest)? {
+            Some((sheet, ())) => Ok(Some(Some(Sheets::DuplicateSheet { sheet }))),
+            None => Ok(Some(None)),
+        },
+        "rename_sheet" => match Words::of(alloc, rest)? {
+            Some((old, (new, ()))) => Ok(Some(Some(Sheets::RenameSheet { old, new }))),
+            None => Ok(Some(None)),
+        },
+        "rename_sheet_by_index" => match Words::of(alloc, rest)? {
+            Some((sheet, (name, ()))) => Ok(Some(Some(Sheets::RenameSheetByIndex { sheet, name }))),
+            None => Ok(Some(None)),
+        },
+        "move_sheet" => match Words::of(alloc, rest)? {
+            Some((sheet, (to, ()))) => Ok(Some(Some(Sheets::MoveSheet { sheet, to }))),
+            None => Ok(Some(None)),
+        },
+        "delete_sheet" => match Words::of(alloc, rest)? {
+            Some((sheet, ())) => Ok(Some(Some(Sheets::DeleteSheet { sheet }))),
+            None => Ok(Some(None)),
+        },
+        "delete_sheet_by_name" => match Words::of(alloc, rest)? {
+            Some((name, ())) => Ok(Some(Some(Sheets::DeleteSheetByName { name }))),
+            None => Ok(Some(None)),
+        },
+        "delete_sheet_by_sheet_id" => match Words::of(alloc, rest)? {
+            Some((id, ())) => Ok(Some(Some(Sheets::DeleteSheetBySheetId { id }))),
+            None => Ok(Some(None)),
+        },
+        "get_new_sheet_id" => match Words::of(alloc, rest)? {
+            Some(()) => Ok(Some(Some(Sheets::GetNewSheetId))),
+            None => Ok(Some(None)),
+        },
+        "get_worksheets_properties" => match Words::of(alloc, rest)? {
+            Some(()) => Ok(Some(Some(Sheets::GetWorksheetsProperties))),
+            None => Ok(Some(None)),
+        },
+        _ => Ok(None),
     }
 }

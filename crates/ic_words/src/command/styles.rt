@@ -1,9 +1,13 @@
-ghost use Rattle.ic_machine.specs.Command.{OnStyles};
+ghost use Rattle.std.specs.Prelude.{◌≡◌, [], IfOk, OnErr, option_map};
+ghost use Rattle.ic_machine.specs.Row.{named};
 ghost use Rattle.ic_machine.specs.subjects.Styles.{style_rows};
-ghost use Rattle.ic_words.specs.Kinds.{IsKind};
+ghost use Rattle.ic_words.specs.Words.{HaveEscape, words_left};
+ghost use Rattle.ic_words.specs.subjects.Styles.{styles_meant};
 
-use crate::command::kind::{InCell, Kind, OnLine, StyledLine};
+use crate::command::Made;
 use crate::styling::StyleWords;
+use crate::words::Words;
+use std::alloc::Global;
 
 /// A command on the styles of cells, rows and columns.
 #[derive(Drop)]
@@ -51,20 +55,72 @@ pub enum Styles<'l> {
     },
 }
 
-/// The kind of the command on styles of this name.
-pub(crate) fn styles_named(name: &str) -> Option<Kind>
-    ensures { IsKind OnStyles style_rows name.now result }
+/// The command on styles of this name, by the words that are left.
+pub(crate) fn styles_in<'l>(alloc: Global, name: &str, rest: Option<&'l str>) -> Made<Styles<'l>>
+    ensures exact { IfOk result (λ made. option_map (option_map styles_meant) made
+        ≡ named [] style_rows name.now (words_left rest.entry)) }
+    ensures memory { OnErr result (HaveEscape (words_left rest.entry)) }
 {
     match name {
-        "get_cell_style_index" => Some(Kind::InCell(InCell::GetCellStyleIndex)),
-        "get_style_for_cell" => Some(Kind::InCell(InCell::GetStyleForCell)),
-        "get_cell_style_or_none" => Some(Kind::InCell(InCell::GetCellStyleOrNone)),
-        "set_column_style" => Some(Kind::StyledLine(StyledLine::SetColumnStyle)),
-        "set_row_style" => Some(Kind::StyledLine(StyledLine::SetRowStyle)),
-        "get_column_style" => Some(Kind::OnLine(OnLine::GetColumnStyle)),
-        "get_row_style" => Some(Kind::OnLine(OnLine::GetRowStyle)),
-        "delete_column_style" => Some(Kind::OnLine(OnLine::DeleteColumnStyle)),
-        "delete_row_style" => Some(Kind::OnLine(OnLine::DeleteRowStyle)),
-        _ => None,
+        "get_cell_style_index" => match Words::of(alloc, rest)? {
+            Some((sheet, (row, (column, ())))) => Ok(Some(Some(Styles::GetCellStyleIndex {
+                sheet,
+                row,
+                column,
+            }))),
+            None => Ok(Some(None)),
+        },
+        "get_style_for_cell" => match Words::of(alloc, rest)? {
+            Some((sheet, (row, (column, ())))) => Ok(Some(Some(Styles::GetStyleForCell {
+                sheet,
+                row,
+                column,
+            }))),
+            None => Ok(Some(None)),
+        },
+        "get_cell_style_or_none" => match Words::of(alloc, rest)? {
+            Some((sheet, (row, (column, ())))) => Ok(Some(Some(Styles::GetCellStyleOrNone {
+                sheet,
+                row,
+                column,
+            }))),
+            None => Ok(Some(None)),
+        },
+        "set_column_style" => match Words::of(alloc, rest)? {
+            Some((sheet, (column, style))) => Ok(Some(Some(Styles::SetColumnStyle {
+                sheet,
+                column,
+                style,
+            }))),
+            None => Ok(Some(None)),
+        },
+        "set_row_style" => match Words::of(alloc, rest)? {
+            Some((sheet, (row, style))) => Ok(Some(Some(Styles::SetRowStyle {
+                sheet,
+                row,
+                style,
+            }))),
+            None => Ok(Some(None)),
+        },
+        "get_column_style" => match Words::of(alloc, rest)? {
+            Some((sheet, (column, ()))) => Ok(Some(Some(Styles::GetColumnStyle { sheet, column }))),
+            None => Ok(Some(None)),
+        },
+        "get_row_style" => match Words::of(alloc, rest)? {
+            Some((sheet, (row, ()))) => Ok(Some(Some(Styles::GetRowStyle { sheet, row }))),
+            None => Ok(Some(None)),
+        },
+        "delete_column_style" => match Words::of(alloc, rest)? {
+            Some((sheet, (column, ()))) => Ok(Some(Some(Styles::DeleteColumnStyle {
+                sheet,
+                column,
+            }))),
+            None => Ok(Some(None)),
+        },
+        "delete_row_style" => match Words::of(alloc, rest)? {
+            Some((sheet, (row, ()))) => Ok(Some(Some(Styles::DeleteRowStyle { sheet, row }))),
+            None => Ok(Some(None)),
+        },
+        _ => Ok(None),
     }
 }

@@ -1,12 +1,14 @@
-ghost use Rattle.ic_machine.specs.Command.{OnTabs};
+ghost use Rattle.std.specs.Prelude.{◌≡◌, [], IfOk, OnErr, option_map};
+ghost use Rattle.ic_machine.specs.Row.{named};
 ghost use Rattle.ic_machine.specs.subjects.Tabs.{tab_rows};
-ghost use Rattle.ic_words.specs.Kinds.{IsKind};
+ghost use Rattle.ic_words.specs.Words.{HaveEscape, words_left};
+ghost use Rattle.ic_words.specs.subjects.Tabs.{tabs_meant};
 
-use crate::command::kind::{
-    ColoredSheet, Kind, OnLine, OneIndex, OneText, SheetInState, SwitchedSheet, Wordless,
-};
+use crate::command::Made;
 use crate::text::WordText;
+use crate::words::Words;
 use ic_cells::SheetState;
+use std::alloc::Global;
 
 /// A command on the tabs of sheets, on what stays in sight there, and on the theme. A color is a text, or None for
 /// no color.
@@ -44,20 +46,49 @@ pub enum Tabs<'l> {
     },
 }
 
-/// The kind of the command on tabs or the theme of this name.
-pub(crate) fn tabs_named(name: &str) -> Option<Kind>
-    ensures { IsKind OnTabs tab_rows name.now result }
+/// The command on tabs or the theme of this name, by the words that are left.
+pub(crate) fn tabs_in<'l>(alloc: Global, name: &str, rest: Option<&'l str>) -> Made<Tabs<'l>>
+    ensures exact { IfOk result (λ made. option_map (option_map tabs_meant) made
+        ≡ named [] tab_rows name.now (words_left rest.entry)) }
+    ensures memory { OnErr result (HaveEscape (words_left rest.entry)) }
 {
     match name {
-        "set_theme" => Some(Kind::OneText(OneText::SetTheme)),
-        "get_theme" => Some(Kind::Wordless(Wordless::GetTheme)),
-        "set_frozen_rows" => Some(Kind::OnLine(OnLine::SetFrozenRows)),
-        "set_frozen_columns" => Some(Kind::OnLine(OnLine::SetFrozenColumns)),
-        "get_frozen_rows_count" => Some(Kind::OneIndex(OneIndex::GetFrozenRowsCount)),
-        "get_frozen_columns_count" => Some(Kind::OneIndex(OneIndex::GetFrozenColumnsCount)),
-        "set_sheet_color" => Some(Kind::ColoredSheet(ColoredSheet::SetSheetColor)),
-        "set_sheet_state" => Some(Kind::SheetInState(SheetInState::SetSheetState)),
-        "set_show_grid_lines" => Some(Kind::SwitchedSheet(SwitchedSheet::SetShowGridLines)),
-        _ => None,
+        "set_theme" => match Words::of(alloc, rest)? {
+            Some((name, ())) => Ok(Some(Some(Tabs::SetTheme { name }))),
+            None => Ok(Some(None)),
+        },
+        "get_theme" => match Words::of(alloc, rest)? {
+            Some(()) => Ok(Some(Some(Tabs::GetTheme))),
+            None => Ok(Some(None)),
+        },
+        "set_frozen_rows" => match Words::of(alloc, rest)? {
+            Some((sheet, (count, ()))) => Ok(Some(Some(Tabs::SetFrozenRows { sheet, count }))),
+            None => Ok(Some(None)),
+        },
+        "set_frozen_columns" => match Words::of(alloc, rest)? {
+            Some((sheet, (count, ()))) => Ok(Some(Some(Tabs::SetFrozenColumns { sheet, count }))),
+            None => Ok(Some(None)),
+        },
+        "get_frozen_rows_count" => match Words::of(alloc, rest)? {
+            Some((sheet, ())) => Ok(Some(Some(Tabs::GetFrozenRowsCount { sheet }))),
+            None => Ok(Some(None)),
+        },
+        "get_frozen_columns_count" => match Words::of(alloc, rest)? {
+            Some((sheet, ())) => Ok(Some(Some(Tabs::GetFrozenColumnsCount { sheet }))),
+            None => Ok(Some(None)),
+        },
+        "set_sheet_color" => match Words::of(alloc, rest)? {
+            Some((sheet, (color, ()))) => Ok(Some(Some(Tabs::SetSheetColor { sheet, color }))),
+            None => Ok(Some(None)),
+        },
+        "set_sheet_state" => match Words::of(alloc, rest)? {
+            Some((sheet, (state, ()))) => Ok(Some(Some(Tabs::SetSheetState { sheet, state }))),
+            None => Ok(Some(None)),
+        },
+        "set_show_grid_lines" => match Words::of(alloc, rest)? {
+            Some((sheet, (shows, ()))) => Ok(Some(Some(Tabs::SetShowGridLines { sheet, shows }))),
+            None => Ok(Some(None)),
+        },
+        _ => Ok(None),
     }
 }

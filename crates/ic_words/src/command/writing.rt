@@ -1,10 +1,14 @@
-ghost use Rattle.ic_machine.specs.Command.{OnWriting};
+ghost use Rattle.std.specs.Prelude.{◌≡◌, [], IfOk, OnErr, option_map};
+ghost use Rattle.ic_machine.specs.Row.{named};
 ghost use Rattle.ic_machine.specs.subjects.Writing.{writing_rows};
-ghost use Rattle.ic_words.specs.Kinds.{IsKind};
+ghost use Rattle.ic_words.specs.Words.{HaveEscape, words_left};
+ghost use Rattle.ic_words.specs.subjects.Writing.{writing_meant};
 
-use crate::command::kind::{AmountInCell, Kind, TextInCell, TruthInCell};
+use crate::command::Made;
 use crate::text::WordText;
+use crate::words::Words;
 use ic_laws::Amount;
+use std::alloc::Global;
 
 /// A command that writes a cell.
 #[derive(Drop)]
@@ -41,16 +45,66 @@ pub enum Writing<'l> {
     },
 }
 
-/// The kind of the command that writes a cell of this name.
-pub(crate) fn writing_named(name: &str) -> Option<Kind>
-    ensures { IsKind OnWriting writing_rows name.now result }
+/// The command of this name that writes a cell, by the words that are left.
+pub(crate) fn writing_in<'l>(alloc: Global, name: &str, rest: Option<&'l str>) -> Made<Writing<'l>>
+    ensures exact { IfOk result (λ made. option_map (option_map writing_meant) made
+        ≡ named [] writing_rows name.now (words_left rest.entry)) }
+    ensures memory { OnErr result (HaveEscape (words_left rest.entry)) }
 {
     match name {
-        "set_user_input" => Some(Kind::TextInCell(TextInCell::SetUserInput)),
-        "update_cell_with_text" => Some(Kind::TextInCell(TextInCell::UpdateCellWithText)),
-        "update_cell_with_formula" => Some(Kind::TextInCell(TextInCell::UpdateCellWithFormula)),
-        "update_cell_with_bool" => Some(Kind::TruthInCell(TruthInCell::UpdateCellWithBool)),
-        "update_cell_with_number" => Some(Kind::AmountInCell(AmountInCell::UpdateCellWithNumber)),
-        _ => None,
+        "set_user_input" => match Words::of(alloc, rest)? {
+            Some((sheet, (row, (column, (text, ()))))) => Ok(Some(Some(Writing::SetUserInput {
+                sheet,
+                row,
+                column,
+                text,
+            }))),
+            None => Ok(Some(None)),
+        },
+        "update_cell_with_text" => match Words::of(alloc, rest)? {
+            Some((sheet, (row, (column, (text, ()))))) => Ok(Some(Some(
+                Writing::UpdateCellWithText {
+                    sheet,
+                    row,
+                    column,
+                    text,
+                },
+            ))),
+            None => Ok(Some(None)),
+        },
+        "update_cell_with_formula" => match Words::of(alloc, rest)? {
+            Some((sheet, (row, (column, (text, ()))))) => Ok(Some(Some(
+                Writing::UpdateCellWithFormula {
+                    sheet,
+                    row,
+                    column,
+                    text,
+                },
+            ))),
+            None => Ok(Some(None)),
+        },
+        "update_cell_with_bool" => match Words::of(alloc, rest)? {
+            Some((sheet, (row, (column, (truth, ()))))) => Ok(Some(Some(
+                Writing::UpdateCellWithBool {
+                    sheet,
+                    row,
+                    column,
+                    truth,
+                },
+            ))),
+            None => Ok(Some(None)),
+        },
+        "update_cell_with_number" => match Words::of(alloc, rest)? {
+            Some((sheet, (row, (column, (amount, ()))))) => Ok(Some(Some(
+                Writing::UpdateCellWithNumber {
+                    sheet,
+                    row,
+                    column,
+                    amount,
+                },
+            ))),
+            None => Ok(Some(None)),
+        },
+        _ => Ok(None),
     }
 }

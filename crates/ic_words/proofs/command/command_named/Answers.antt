@@ -3,7 +3,7 @@ use Rattle.std.proofs.lemmas.Result.{IfOk-weaker, on_err_weaker}
 use Rattle.ic_tables.specs.Words.{error_words}
 use Rattle.ic_machine.specs.Row.{joined}
 use Rattle.ic_words.specs.Words.{copies_values, words_left}
-use Rattle.ic_words.proofs.SubjectLemmas.{not_values, spill_named, value_named}
+use Rattle.ic_words.proofs.SubjectLemmas.{known_named, not_values, spill_named, value_named}
 use Rattle.ic_words.proofs.ValueLemmas.{asks_by_chars}
 use Rattle.ic_words.proofs.WordsLemmas.{always}
 use Rattle.ic_words.proofs.command.command_named.Goals as goal
@@ -24,16 +24,10 @@ pub returns-in-put_spill-clause-memory : goal.returns-in-put_spill-clause-memory
 returns-in-put_spill-clause-memory c =
     always _ (asks_by_chars c.args.name.now (words_left c.args.rest) c.utf8.name (inr (ap copies_values c.in-put_spill.is)))
 
-pub returns-in-Some-clause-exact : goal.returns-in-Some-clause-exact
-returns-in-Some-clause-exact c =
+pub returns-in_default-clause-exact : goal.returns-in_default-clause-exact
+returns-in_default-clause-exact c =
     let other = not_values c.args.name.now c.in_default.not-put_formula_value c.in_default.not-put_spill in
-    let known = c.in-Some.ensures other (error_words c.args.english.now) (words_left c.args.rest) in
-    IfOk-weaker c.command_of.result _ _ (λ command e. e ∙ ap joined known) c.command_of.ensures.exact
+    IfOk-weaker c.plain_command.result _ _ (λ command e. e ∙ ap joined (known_named (error_words c.args.english.now) c.args.name.now (words_left c.args.rest) c.utf8.name other)) (c.plain_command.ensures.exact other)
 
-pub returns-in-Some-clause-memory : goal.returns-in-Some-clause-memory
-returns-in-Some-clause-memory c = on_err_weaker c.command_of.result inl c.command_of.ensures.memory
-
-pub returns-in-None-clause-exact : goal.returns-in-None-clause-exact
-returns-in-None-clause-exact c =
-    let other = not_values c.args.name.now c.in_default.not-put_formula_value c.in_default.not-put_spill in
-    ap joined (c.in-None.ensures other (error_words c.args.english.now) (words_left c.args.rest))
+pub returns-in_default-clause-memory : goal.returns-in_default-clause-memory
+returns-in_default-clause-memory c = on_err_weaker c.plain_command.result inl c.plain_command.ensures.memory
