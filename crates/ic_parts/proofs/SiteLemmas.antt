@@ -75,11 +75,11 @@ prepared_alike ps sheets alike ordered differ = go ps (own_here [] ps ps refl (p
   where
     found : (id : ℕ) (xs : List Sheet) (s : Sheet) → find (λ s. nat_eq s.id id) xs ≡ Some s → s.id ≡ id
     found id [] s e = cc
-    found id (x ∷ xs) s e = step (nat_eq x.id id) refl e
+    found id (x ∷ xs) s e = step (nat_eq x.id id) refl e (found id xs s)
       where
-        step : (b : Bool) → nat_eq x.id id ≡ b → cond b (Some x) (find (λ s. nat_eq s.id id) xs) ≡ Some s → s.id ≡ id
-        step true is e = let same : x ≡ s = cc in ap (λ (y : Sheet). y.id) (sym same) ∙ eqb-true x.id id is
-        step false is e = found id xs s e
+        step : (b : Bool) → nat_eq x.id id ≡ b → cond b (Some x) (find (λ s. nat_eq s.id id) xs) ≡ Some s → (find (λ s. nat_eq s.id id) xs ≡ Some s → s.id ≡ id) → s.id ≡ id
+        step true is e rest = let same : x ≡ s = cc in ap (λ (y : Sheet). y.id) (sym same) ∙ eqb-true x.id id is
+        step false is e rest = rest e
 
     go : (qs : Own) → AllByRecursion (λ p. own_rewrites p.0 ps ≡ Some p.1) qs → AllByRecursion (λ p. IfSome (find (λ s. nat_eq s.id p.0) sheets) (λ s. AllByRecursion (IsAlikeIn s.pool.formulas) p.1.changes)) qs
     go [] h = tt
@@ -122,21 +122,23 @@ module _ (keys : KeyChange) where
   pub in_order : (ps : Own) (xs : List Sheet) → is_part (own_ids ps) (ids_of xs) ≡ true → IsDistinct nat_eq (ids_of xs) → flat_map (prepared_sites keys xs) ps ≡ sites_of_sheets keys ps xs
   in_order [] xs e d = sym (none_sites xs)
   in_order (p ∷ ps) [] e d = cc
-  in_order (p ∷ ps) (x ∷ xs) e d = step (nat_eq p.0 x.id) refl e
+  in_order (p ∷ ps) (x ∷ xs) e d = step (nat_eq p.0 x.id) refl e (λ f. in_order ps xs f (IsDistinct-tail nat_eq x.id (ids_of xs) d)) (λ f. in_order (p ∷ ps) xs f (IsDistinct-tail nat_eq x.id (ids_of xs) d))
     where
       apart : AllByRecursion (λ k. nat_eq x.id k ≡ false) (ids_of xs)
       apart = IsDistinct-head nat_eq x.id (ids_of xs) d
 
-      step : (b : Bool) → nat_eq p.0 x.id ≡ b → cond b (is_part (own_ids ps) (ids_of xs)) (is_part (own_ids (p ∷ ps)) (ids_of xs)) ≡ true → flat_map (prepared_sites keys (x ∷ xs)) (p ∷ ps) ≡ sites_of_sheets keys (p ∷ ps) (x ∷ xs)
-      step true is part =
+      step : (b : Bool) → nat_eq p.0 x.id ≡ b → cond b (is_part (own_ids ps) (ids_of xs)) (is_part (own_ids (p ∷ ps)) (ids_of xs)) ≡ true
+          → (is_part (own_ids ps) (ids_of xs) ≡ true → flat_map (prepared_sites keys xs) ps ≡ sites_of_sheets keys ps xs) → (is_part (own_ids (p ∷ ps)) (ids_of xs) ≡ true → flat_map (prepared_sites keys xs) (p ∷ ps) ≡ sites_of_sheets keys (p ∷ ps) xs)
+          → flat_map (prepared_sites keys (x ∷ xs)) (p ∷ ps) ≡ sites_of_sheets keys (p ∷ ps) (x ∷ xs)
+      step true is part one all =
           let its : nat_eq x.id p.0 ≡ true = nat_eq_equiv.symm x.id p.0 ∙ is in
           ap₂ (λ (a b : List MentionSite). a ++ b) (ap (λ b. option_map_or (sheet_sites keys p.1) (cond b (Some x) (find (λ s. nat_eq s.id p.0) xs)) []) its)
-          (other_found x xs ps (all_part (λ k. nat_eq x.id k ≡ false) (own_ids ps) (ids_of xs) part apart) ∙ in_order ps xs part (IsDistinct-tail nat_eq x.id (ids_of xs) d)
+          (other_found x xs ps (all_part (λ k. nat_eq x.id k ≡ false) (own_ids ps) (ids_of xs) part apart) ∙ one part
           ∙ sym (other_prepared p ps xs (subst (λ n. AllByRecursion (λ k. nat_eq n k ≡ false) (ids_of xs)) (sym (eqb-true p.0 x.id is)) apart)))
           ∙ ap (λ b. sheet_sites keys (unwrap_or (cond b (Some p.1) (own_rewrites x.id ps)) nothing) x ++ sites_of_sheets keys (p ∷ ps) xs) (sym its)
-      step false is part =
+      step false is part one all =
           let others = all_part (λ k. nat_eq x.id k ≡ false) (own_ids (p ∷ ps)) (ids_of xs) part apart in
-          other_found x xs (p ∷ ps) others ∙ in_order (p ∷ ps) xs part (IsDistinct-tail nat_eq x.id (ids_of xs) d)
+          other_found x xs (p ∷ ps) others ∙ all part
           ∙ ap (λ (a : List MentionSite). a ++ sites_of_sheets keys (p ∷ ps) xs)
           (sym (ap (λ o. sheet_sites keys (unwrap_or o nothing) x) (own_none x.id (p ∷ ps) (some_apart x.id (own_ids (p ∷ ps)) others)) ∙ nothing_sites x))
 
