@@ -1,10 +1,8 @@
-use Rattle.std.proofs.Common.{◌++◌, ap, chars, map, refl, sym, ◌∙◌}
+use Rattle.std.proofs.Common.{◌++◌, ap, chars, refl, ◌∙◌}
 use Rattle.ic_definitions.specs.Named.{definitions_scene}
-use Rattle.ic_machine.specs.subjects.Sheets.{copied_of, local_in}
 use Rattle.ic_sheets.proofs.IndexLemmas.{read_boxed}
 use Rattle.ic_sheets.proofs.OwnLemmas.{same_ids, same_names}
 use Rattle.ic_sheets.proofs.SearchLemmas.{ids, names}
-use Rattle.ic_sheets.specs.declared.sheet.Sheet.{Sheet as HeldSheet}
 use Rattle.ic_tree.specs.LanguageWords.{function_of}
 use Rattle.ic_changes.proofs.CopiedContents.{copy_gone, copy_made}
 use Rattle.ic_changes.proofs.CopiedDefinitions.{copies_apart, copies_differ}
@@ -27,7 +25,7 @@ returns-in-Ok-clause-ok c = λ source at.
     copy_made (function_of c.args.english.now) c.args.index c.args.id (chars c.args.name.now) source c.args.contents.now c.requires.within at
     c.in_ok-copies.copies c.new-both.result.first.definitions.now c.new-both.result.more.definitions.now c.as_ref.result.now
     (read_is c.as_slice.result.now c.args.contents.now.sheets c.args.index c.as_ref.result.now source c.as_slice.ensures.sheets c.requires.within (read_boxed c.as_slice.result.now c.args.index c.as_ref.ensures c.index-as_slice-index.is) at)
-    (c.in_ok-copies.ensures.copies ∙ ap (λ (s : HeldSheet). map (local_in c.args.id) (copied_of s.id c.args.contents.now.definitions)) (sym (read_boxed c.as_slice.result.now c.args.index c.as_ref.ensures c.index-as_slice-index.is))) (ap (λ n. n.definitions.now) c.new-both.ensures.first) (ap (λ n. n.definitions.now) c.new-both.ensures.more)
+    c.in_ok-copies.ensures.copies (ap (λ n. n.definitions.now) c.new-both.ensures.first) (ap (λ n. n.definitions.now) c.new-both.ensures.more)
     c.insert_unapplied.new.self c.in_ok-prepared.ensures.ok c.in_ok-prepared.prepared.items c.in_ok-bodies.bodies.bodies.items c.in-Ok.filling _
     c.add_copies.new.contents.sheets c.apply.new.self c.in_ok-prepared.ensures.made c.in_ok-prepared.ensures.looks_up c.in-Ok.ensures.sheets c.apply.ensures c.put.ensures c.in-Ok.ensures.filling c.in_ok-bodies.ensures.made c.in-Ok.ensures.definitions
 

@@ -7,6 +7,7 @@ use Rattle.ic_laws.specs.CoreBook.{scene_of}
 use Rattle.ic_laws.specs.CoreStep.{changed_by, rename_refusal, with_sheet_name}
 use Rattle.ic_laws.specs.Name.{agrees}
 use Rattle.ic_laws.specs.Refusal.{InvalidSheet, SheetExists}
+use Rattle.ic_sheets.proofs.IndexLemmas.{read_boxed}
 use Rattle.ic_sheets.proofs.RewritingLemmas.{sheet_there}
 use Rattle.ic_sheets.specs.Rewriting.{look_ups, looks_up_after}
 use Rattle.ic_sheets.specs.Sheet.{Sheet}
@@ -55,7 +56,7 @@ invariant_of-self-2 c =
     let at = sheet_there c.self.inside.contents.sheets c.args.index (within_of c.self.inside.contents.sheets c.len.result c.args.index c.len.ensures c.if-index-len.false) in
     record {
       book = held_after c.self.inside c.self.invariant.book c.rename_sheet.new.self c.apply.new.self (book_changed_by (with_renamed_sheet c.args.index name) (held c.self.inside))
-          (renamed c.self.inside c.self.invariant.book c.rename_sheet.new.self c.apply.new.self c.args.index name at.0 none at.1 (c.in_ok-rename_sheet.ensures.ok at.0 at.1) (c.apply.ensures.bodies ∙ c.in_ok-bodies.ensures.made ∙ ap (λ (s : HeldSheet). map (with_body_tree (changed_tree (sheet_named (definitions_scene c.self.inside.contents.definitions) s.id name))) c.self.inside.contents.definitions) (sym c.index-as_slice-index.is ∙ read_is c.as_slice.result.now c.self.inside.contents.sheets c.args.index c.index-as_slice-index.result at.0 c.as_slice.ensures.sheets (within_of c.self.inside.contents.sheets c.len.result c.args.index c.len.ensures c.if-index-len.false) c.index-as_slice-index.is at.1)))
+          (renamed c.self.inside c.self.invariant.book c.rename_sheet.new.self c.apply.new.self c.args.index name at.0 none at.1 (c.in_ok-rename_sheet.ensures.ok at.0 at.1) (c.apply.ensures.bodies ∙ c.in_ok-bodies.ensures.made ∙ ap (λ (s : HeldSheet). map (with_body_tree (changed_tree (sheet_named (definitions_scene c.self.inside.contents.definitions) s.id name))) c.self.inside.contents.definitions) (read_is c.as_slice.result.now c.self.inside.contents.sheets c.args.index c.as_ref.result.now at.0 c.as_slice.ensures.sheets (within_of c.self.inside.contents.sheets c.len.result c.args.index c.len.ensures c.if-index-len.false) (read_boxed c.as_slice.result.now c.args.index c.as_ref.ensures c.index-as_slice-index.is) at.1)))
           (renamed_valid (held c.self.inside) c.self.invariant.book c.args.index name none);
       names = record { sheets = c.rename_sheet.ensures.finds; names = c.apply.ensures.finds c.self.inside.names.names c.self.invariant.names.names };
     }
@@ -64,7 +65,7 @@ pub returns-clause-ok : goal.returns-clause-ok
 returns-clause-ok c =
     let name = chars c.args.new_name.now in
     let at = sheet_there c.self.inside.contents.sheets c.args.index (within_of c.self.inside.contents.sheets c.len.result c.args.index c.len.ensures c.if-index-len.false) in
-    renamed c.self.inside c.self.invariant.book c.rename_sheet.new.self c.apply.new.self c.args.index name at.0 (rename_accepts (core_of (held c.self.inside)) c.args.index name (sym c.is_valid_sheet_name.ensures ∙ c.if-not-is_valid_sheet_name.false) (ap (λ xs. list_any (agrees name) (remove xs c.args.index)) (sym (seen_names c.self.inside.contents.sheets)) ∙ sym c.is_taken_by_other.ensures ∙ c.if-is_taken_by_other.false) (there_is c.self.inside.contents.sheets c.args.index (within_of c.self.inside.contents.sheets c.len.result c.args.index c.len.ensures c.if-index-len.false))) at.1 (c.in_ok-rename_sheet.ensures.ok at.0 at.1) (c.apply.ensures.bodies ∙ c.in_ok-bodies.ensures.made ∙ ap (λ (s : HeldSheet). map (with_body_tree (changed_tree (sheet_named (definitions_scene c.self.inside.contents.definitions) s.id name))) c.self.inside.contents.definitions) (sym c.index-as_slice-index.is ∙ read_is c.as_slice.result.now c.self.inside.contents.sheets c.args.index c.index-as_slice-index.result at.0 c.as_slice.ensures.sheets (within_of c.self.inside.contents.sheets c.len.result c.args.index c.len.ensures c.if-index-len.false) c.index-as_slice-index.is at.1))
+    renamed c.self.inside c.self.invariant.book c.rename_sheet.new.self c.apply.new.self c.args.index name at.0 (rename_accepts (core_of (held c.self.inside)) c.args.index name (sym c.is_valid_sheet_name.ensures ∙ c.if-not-is_valid_sheet_name.false) (ap (λ xs. list_any (agrees name) (remove xs c.args.index)) (sym (seen_names c.self.inside.contents.sheets)) ∙ sym c.is_taken_by_other.ensures ∙ c.if-is_taken_by_other.false) (there_is c.self.inside.contents.sheets c.args.index (within_of c.self.inside.contents.sheets c.len.result c.args.index c.len.ensures c.if-index-len.false))) at.1 (c.in_ok-rename_sheet.ensures.ok at.0 at.1) (c.apply.ensures.bodies ∙ c.in_ok-bodies.ensures.made ∙ ap (λ (s : HeldSheet). map (with_body_tree (changed_tree (sheet_named (definitions_scene c.self.inside.contents.definitions) s.id name))) c.self.inside.contents.definitions) (read_is c.as_slice.result.now c.self.inside.contents.sheets c.args.index c.as_ref.result.now at.0 c.as_slice.ensures.sheets (within_of c.self.inside.contents.sheets c.len.result c.args.index c.len.ensures c.if-index-len.false) (read_boxed c.as_slice.result.now c.args.index c.as_ref.ensures c.index-as_slice-index.is) at.1))
     ∙ ap (λ (m : ModelState). book_changed_by (with_renamed_sheet c.args.index name) m.book) c.self.view_is
 
 pub returns-clause-core : goal.returns-clause-core
