@@ -1,18 +1,18 @@
 //! A sheet as a table of texts.
-ghost use Rattle.std.specs.Prelude.{◌≡◌, ◌<◌, ◌≤◌, ◌++◌, [], ◌∷◌, IfOk, OnOk, None, Some, chars, codes, length, string_bytes, true};
+ghost use Rattle.std.specs.Prelude.{◌≡◌, ◌<◌, ◌≤◌, ◌++◌, [], ◌∷◌, IfOk, OnOk, None, Some, chars, length, string_bytes};
 ghost use Rattle.std.specs.FinMap as finite;
 ghost use Rattle.std.specs.List.{join_by, range_with_len};
 ghost use Rattle.ic_cells.specs.Style.{style_at};
 ghost use Rattle.ic_laws.specs.Character.{line_feed};
 ghost use Rattle.ic_laws.specs.Lines.{escaped};
 ghost use Rattle.ic_laws.specs.Position.{column_count, row_count};
-ghost use Rattle.ic_machine.specs.Reply.{text_field};
 ghost use Rattle.ic_machine.specs.subjects.Reading.{GetSheetMarkup, reading_step};
 ghost use Rattle.ic_sheets.specs.Sheet.{sheet_of};
 ghost use Rattle.ic_parts.specs.Does.{Does, DoesOnly};
 ghost use Rattle.ic_parts.specs.Fields.{string_only};
 ghost use Rattle.ic_parts.specs.Markup.{last_of, place_shown, plain_shown, row_behind, row_shown, sheet_shown, shows_bold};
 ghost use Rattle.ic_parts.specs.Shown.{StandsIn};
+ghost use Rattle.ic_book.specs.Markup.{markup_fields};
 
 use crate::{BookError, Model};
 use ic_cells::Cell;
@@ -24,22 +24,24 @@ use ic_parts::markup::{ROW_BEHIND, is_blank_row, last_of, push_marked, separator
 use ic_sheets::Sheet;
 use ic_words::Fields;
 
-/// A sheet of a book as a table, which is written into a reply row by row.
+/// A sheet of a book, by its index from 0, as a table that is written into a reply row by row.
 #[derive(Drop)]
 pub struct Markup<'m, 'a> {
     model: &'m Model<'a>,
-    worksheet: &'m Sheet,
-    ghost stands: { StandsIn (sheet_of worksheet.now) model.now.book },
+    sheet: u32,
 }
 
 impl Fields for Markup<'_, '_> {
-    ghost fields = { λ m. text_field (sheet_shown m.model.now.book (sheet_of m.worksheet.now)) };
+    ghost fields = { λ m. markup_fields m.model.now.book m.sheet };
 
     ghost memory = { true };
 
     fn write(&self, reply: &mut String) -> Result<(), OutOfMemory> {
         push_char(reply, '\t')?;
-        self.model.push_word(reply, self.worksheet)
+        match self.model.sheet_at(self.sheet) {
+            Ok(worksheet) => self.model.push_word(reply, worksheet),
+            Err(_) => Ok(()),
+        }
     }
 }
 
@@ -63,16 +65,12 @@ impl<'a> Model<'a> {
     /// The same table, to be written into a reply. It takes no memory itself.
     pub fn sheet_markup(&self, sheet: u32) -> Result<Markup<'_, 'a>, BookError>
         ensures does { DoesOnly reading_step (GetSheetMarkup sheet)
-            (λ m. text_field (sheet_shown m.model.now.book (sheet_of m.worksheet.now)))
-            result self.now self.now }
+            (λ m. markup_fields m.model.now.book m.sheet) result self.now self.now }
     {
         // What always holds of a model is known from here on.
         let _ = &self.contents;
-        let worksheet = self.sheet_at(sheet)?;
-        Ok(Markup {
-            model: self,
-            worksheet,
-        })
+        let _ = self.sheet_at(sheet)?;
+        Ok(Markup { model: self, sheet })
     }
 
     /// A sheet of the book as a table.

@@ -39,5 +39,5 @@ returns c =
     let shown = join_by (row_shown c.args.self.now.book s c.last_of-rows.result.1) (line_feed ∷ []) (range_with_len 1 c.last_of-rows.result.0) in
     on_ok_weaker c.push_row_words.result
     (λ put. put ∙ ap (λ b. chars b ++ escaped shown) c.in_ok-reserve.ensures.bytes
-        ∙ ap (λ t. chars (string_bytes c.args.text.now) ++ escaped t) (table_told c.args.self.now.book s c.last_of-rows.result.0 c.last_of-rows.result.1 (ap (λ p. p.0) (c.last_of-rows.ensures.last ∙ ap last_of keys)) (ap (λ p. p.1) (c.last_of-rows.ensures.last ∙ ap last_of keys))))
+    ∙ ap (λ t. chars (string_bytes c.args.text.now) ++ escaped t) (table_told c.args.self.now.book s c.last_of-rows.result.0 c.last_of-rows.result.1 (ap (λ p. p.0) (c.last_of-rows.ensures.last ∙ ap last_of keys)) (ap (λ p. p.1) (c.last_of-rows.ensures.last ∙ ap last_of keys))))
     c.push_row_words.ensures
