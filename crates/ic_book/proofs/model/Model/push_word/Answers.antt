@@ -1,4 +1,4 @@
-use Rattle.std.proofs.Common.{◌∙◌, ◌++◌, [], ◌∷◌, ap, chars, subst, string_bytes}
+use Rattle.std.proofs.Common.{◌∙◌, ◌++◌, [], ◌∷◌, ap, arith, chars, subst, string_bytes}
 use Rattle.std.specs.List.{join_by, range_with_len}
 use Rattle.std.proofs.lemmas.Result.{on_ok_weaker}
 use Rattle.ic_laws.specs.Character.{line_feed}
@@ -31,6 +31,14 @@ push_row_words-requires-clause-columns c =
     let keys = same_keys c.as_map.result.now s.grid.cells c.last_of-rows.ensures.ordered c.as_map.ensures in
     columns_within s (its_grid c.args.self.now.book (subst (λ (m : ModelState). IsValidBook m.book) c.self.view_is c.self.invariant.book) c.requires.0 s c.requires.1)
     c.last_of-rows.result.1 (ap (λ p. p.1) (c.last_of-rows.ensures.last ∙ ap last_of keys))
+
+pub overflow_add-columns : goal.overflow_add-columns
+overflow_add-columns c =
+    let s = sheet_of c.args.worksheet.now in
+    let keys = same_keys c.as_map.result.now s.grid.cells c.last_of-rows.ensures.ordered c.as_map.ensures in
+    let within = columns_within s (its_grid c.args.self.now.book (subst (λ (m : ModelState). IsValidBook m.book) c.self.view_is c.self.invariant.book) c.requires.0 s c.requires.1)
+    c.last_of-rows.result.1 (ap (λ p. p.1) (c.last_of-rows.ensures.last ∙ ap last_of keys)) in
+    omega (arith, within.1)
 
 pub returns : goal.returns
 returns c =
