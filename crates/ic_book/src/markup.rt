@@ -1,7 +1,7 @@
 //! A sheet as a table of texts.
-ghost use Rattle.std.specs.Prelude.{◌≡◌, ◌<◌, ◌≤◌, ◌++◌, [], ◌∷◌, IfOk, OnOk, None, Some, chars, length, string_bytes, true};
+ghost use Rattle.std.specs.Prelude.{◌≡◌, ◌<◌, ◌≤◌, ◌++◌, [], ◌∷◌, IfOk, OnOk, None, Some, chars, length, option_map, string_bytes, true};
 ghost use Rattle.std.specs.FinMap as finite;
-ghost use Rattle.std.specs.List.{join_by, range_with_len};
+ghost use Rattle.std.specs.List.{join_by, range_with_len, slice_get};
 ghost use Rattle.ic_cells.specs.Style.{style_at};
 ghost use Rattle.ic_laws.specs.Character.{line_feed};
 ghost use Rattle.ic_laws.specs.Lines.{escaped};
@@ -12,7 +12,7 @@ ghost use Rattle.ic_parts.specs.Does.{Does, DoesOnly};
 ghost use Rattle.ic_parts.specs.Fields.{string_only};
 ghost use Rattle.ic_parts.specs.Markup.{last_of, place_shown, plain_shown, row_behind, row_shown, sheet_shown, shows_bold};
 ghost use Rattle.ic_parts.specs.Shown.{StandsIn};
-ghost use Rattle.ic_book.specs.Markup.{markup_fields};
+ghost use Rattle.ic_book.specs.Markup.{markup_at, markup_fields};
 
 use crate::{BookError, Model};
 use ic_cells::Cell;
@@ -38,10 +38,7 @@ impl Fields for Markup<'_, '_> {
 
     fn write(&self, reply: &mut String) -> Result<(), OutOfMemory> {
         push_char(reply, '\t')?;
-        match self.model.sheet_at(self.sheet) {
-            Ok(worksheet) => self.model.push_word(reply, worksheet),
-            Err(_) => Ok(()),
-        }
+        self.model.push_word_at(reply, self.sheet)
     }
 }
 
@@ -100,6 +97,24 @@ impl<'a> Model<'a> {
         let mut text = String::new(self.alloc);
         self.push_row_places(&mut text, worksheet, row, columns)?;
         Ok(text)
+    }
+
+    /// The sheet at an index, from 0, if there is one.
+    fn sheet_there(&self, sheet: u32) -> Option<&Sheet>
+        ensures { option_map (λ s. sheet_of s.now) result ≡ slice_get self.now.book.sheets sheet }
+    {
+        self.sheet_at(sheet).ok()
+    }
+
+    /// Appends the sheet at an index as a table, as it is written in a word; nothing where there is none.
+    fn push_word_at(&self, text: &mut String, sheet: u32) -> Result<(), OutOfMemory>
+        ensures { OnOk result (chars (string_bytes text.new) ≡ chars (string_bytes text.old)
+            ++ escaped (markup_at self.now.book sheet)) }
+    {
+        match self.sheet_there(sheet) {
+            Some(worksheet) => self.push_word(text, worksheet),
+            None => Ok(()),
+        }
     }
 
     /// Appends a sheet of the book as a table, as it is written in a word.
