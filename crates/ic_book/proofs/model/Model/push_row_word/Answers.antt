@@ -1,4 +1,4 @@
-use Rattle.std.proofs.Common.{◌++◌, ◌≤◌, ◌∙◌, ap, arith, chars, refl, string_bytes, subst}
+use Rattle.std.proofs.Common.{◌++◌, ◌∙◌, ap, arith, chars, refl, string_bytes, subst}
 use Rattle.std.proofs.lemmas.Result.{on_ok_weaker}
 use Rattle.ic_laws.specs.Lines.{escaped}
 use Rattle.ic_sheets.specs.Sheet.{sheet_of}
