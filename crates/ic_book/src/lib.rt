@@ -48,4 +48,5 @@ pub use ic_parts::{
 };
 pub use ic_pool::Steps;
 pub use law::{law_handed_in, law_whole_book, law_workbook};
+pub use markup::Markup;
 pub use model::Model;

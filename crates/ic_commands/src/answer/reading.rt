@@ -50,6 +50,6 @@ pub(crate) fn answer_reading(
             reply,
         ),
         Reading::GetAllCells => told(model.get_all_cells(), reply),
-        Reading::GetSheetMarkup { sheet } => told(model.get_sheet_markup(sheet), reply),
+        Reading::GetSheetMarkup { sheet } => told(model.sheet_markup(sheet), reply),
     }
 }

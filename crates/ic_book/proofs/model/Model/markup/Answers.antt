@@ -17,8 +17,8 @@ push_rows-requires-clause-rows c =
     rows_within s (its_grid c.args.self.now.book (subst (λ (m : ModelState). IsValidBook m.book) c.self.view_is c.self.invariant.book) c.requires.0 s c.requires.1)
     c.last_of-rows.result.0 (ap (λ p. p.0) (c.last_of-rows.ensures.last ∙ ap last_of keys))
 
-pub blank_row-requires-clause-columns : goal.blank_row-requires-clause-columns
-blank_row-requires-clause-columns c =
+pub row_text-requires-clause-columns : goal.row_text-requires-clause-columns
+row_text-requires-clause-columns c =
     let s = sheet_of c.args.worksheet.now in
     let keys = same_keys c.as_map.result.now s.grid.cells c.last_of-rows.ensures.ordered c.as_map.ensures in
     columns_within s (its_grid c.args.self.now.book (subst (λ (m : ModelState). IsValidBook m.book) c.self.view_is c.self.invariant.book) c.requires.0 s c.requires.1)

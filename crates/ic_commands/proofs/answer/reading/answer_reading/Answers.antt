@@ -27,4 +27,4 @@ pub returns-in-GetAllCells : goal.returns-in-GetAllCells
 returns-in-GetAllCells c = only_read c.told-in-GetAllCells.ensures c.get_all_cells.ensures.does (search rules)
 
 pub returns-in-GetSheetMarkup : goal.returns-in-GetSheetMarkup
-returns-in-GetSheetMarkup c = only_read c.told-in-GetSheetMarkup.ensures c.get_sheet_markup.ensures.does (search rules)
+returns-in-GetSheetMarkup c = only_read c.told-in-GetSheetMarkup.ensures c.sheet_markup.ensures.does (search rules)
