@@ -100,7 +100,11 @@ fn ask_styles(styles: &Styles, sheets: &[Boxed<Sheet>]) -> Result<usize, BookErr
 }
 
 /// Asks whether each of these sheets meets a condition, where these are the styles.
-fn ask_each(condition: SheetCondition, styles: &Styles, sheets: &[Boxed<Sheet>]) -> Result<(), BookError>
+fn ask_each(
+    condition: SheetCondition,
+    styles: &Styles,
+    sheets: &[Boxed<Sheet>],
+) -> Result<(), BookError>
     ensures { MatchResult result
         (λ done. AllByRecursion (IsMet condition styles.now) sheets.now)
         (Breaks (sheet_number condition)
