@@ -27,7 +27,7 @@ use Rattle.ic_laws.specs.declared.tree.NameMention.TheVariants as names
 use Rattle.ic_laws.specs.declared.tree.SheetMention.{SheetMention}
 use Rattle.ic_laws.specs.declared.tree.SheetMention.TheVariants as sheets
 use Rattle.ic_definitions.specs.Bodies.{StaysWhereFound}
-use Rattle.ic_pool.proofs.ChangeLemmas.{naming_spares_found, spared_stays}
+use Rattle.ic_pool.proofs.ChangeLemmas.{naming_spares_found, untouched_stays}
 use Rattle.ic_pool.specs.Mentions.{formula_after, has_dangling, is_dangling, is_dangling_local, is_dangling_word}
 use Rattle.ic_parts.proofs.MentionPairs.{mentions_both}
 
@@ -47,7 +47,7 @@ nothing_is_found e = let no : false ≡ true = ap is_there e in cc
 pub naming_bodies : (scene : Scene) (id : ℕ) (name : List ℕ) (ds : List Definition) → AllByRecursion (StaysWhereFound (sheet_named scene id name)) ds
 naming_bodies scene id name [] = tt
 naming_bodies scene id name (d ∷ ds) =
-    (λ found. ap (λ (body : Formula). let e : Definition = record d { body = body } in e) (spared_stays (sheet_named scene id name) d.scope (naming_spares_found scene id name d.scope) d.body found).0, naming_bodies scene id name ds)
+    (λ found. ap (λ (body : Formula). let e : Definition = record d { body = body } in e) (untouched_stays (sheet_named scene id name) d.scope d.body (naming_spares_found scene id name d.scope d.body found)), naming_bodies scene id name ds)
 
 -- ---- a definition that is local to none
 
