@@ -7,7 +7,7 @@ use Rattle.ic_parts.specs.declared.sites.MentionSite.{MentionSite}
 use Rattle.ic_changes.proofs.UpdatedDoes.{refused_by_checks, wanted_after}
 use Rattle.ic_book.proofs.UpdatedHeld.{accepted_held, apart_held, fits_held, leaves_held, refused_held, updated_held, updated_looks_up, updated_whole, within_held}
 use Rattle.ic_parts.proofs.NameIndexLemmas.{indexed_same}
-use Rattle.ic_sheets.proofs.RewritingLemmas.{ids_rewritten, names_rewritten}
+use Rattle.ic_sheets.proofs.OwnLemmas.{same_ids, same_names}
 use Rattle.ic_sheets.proofs.SearchLemmas.{ids, names}
 use Rattle.ic_book.proofs.model.Model.update.Goals as goal
 
@@ -45,7 +45,7 @@ pub invariant_of-self-2 : goal.invariant_of-self-2
 invariant_of-self-2 c =
     record {
       book = updated_held c.self.inside c.self.invariant.book c.args.self.now c.self.view_is (update_of (chars c.args.name.now) c.args.scope (chars c.args.new_name.now) c.args.new_scope (chars c.args.formula.now)) c.in_ok-checked.checked c.in_ok-checked.ensures.checked c.get_default_language-english.result.now c.get_default_language-english.ensures.found c.in_ok-change.change c.in_ok-change.ensures c.in_ok-prepared.prepared c.in_ok-prepared.ensures (sym c.captures-2.ensures ∙ c.if-captures.false) c.in_ok-definition.definition c.in_ok-definition.ensures c.apply.new.contents.sheets c.apply.new.contents.definitions c.in_ok-apply.ensures.sheets c.in_ok-apply.ensures.definitions;
-      names = record { sheets = (indexed_same c.self.inside.names c.self.inside.contents.sheets c.apply.new.contents.sheets c.self.inside.contents.definitions c.self.invariant.names (ap names c.in_ok-apply.ensures.sheets ∙ names_rewritten _ _) (ap ids c.in_ok-apply.ensures.sheets ∙ ids_rewritten _ _)).sheets; names = c.apply.ensures.finds };
+      names = record { sheets = (indexed_same c.self.inside.names c.self.inside.contents.sheets c.apply.new.contents.sheets c.self.inside.contents.definitions c.self.invariant.names (ap names c.in_ok-apply.ensures.sheets ∙ same_names _ _) (ap ids c.in_ok-apply.ensures.sheets ∙ same_ids _ _)).sheets; names = c.apply.ensures.finds };
     }
 
 pub returns-clause-ok : goal.returns-clause-ok
