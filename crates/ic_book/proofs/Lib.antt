@@ -12,6 +12,7 @@ pub mod NewSheetLemmas
 pub mod OwnDefinitions
 pub mod PartLemmas
 pub mod SharedLemmas
+pub mod StandsLemmas
 pub mod StyleSetLemmas
 pub mod UpdatedHeld
 pub mod UpdatedRules
