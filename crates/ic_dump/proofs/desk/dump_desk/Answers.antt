@@ -1,3 +1,5 @@
+use Rattle.std.proofs.Common.{◌≡◌, ◌∙◌, ◌⊎◌, arith, inl, inr, sym, ℕ}
+use Rattle.ic_pool.proofs.PlaceLemmas.{no_items}
 use Rattle.ic_parts.specs.Whole.{whole_of}
 use Rattle.ic_lines.proofs.ToldLemmas.{IfTold-weaker}
 use Rattle.ic_lines.specs.Bytes.{AppendsFront, IfTold}
@@ -39,3 +41,13 @@ returns-in-Ok-clause-front g c at_4 =
 
 pub tell-status-requires : goal.tell-status-requires
 tell-status-requires g c = never_raw c.args.tables.now c.in-Ok.model.book c.in-Ok.ensures.lines
+
+not_one : (status : ℕ) → (status ≡ 0) ⊎ ((status ≡ 4) ⊎ ((status ≡ 6) ⊎ (status ≡ 7))) → status ≡ 1 → ⊥
+not_one status (inl e) one = omega (arith, e, one)
+not_one status (inr (inl e)) one = omega (arith, e, one)
+not_one status (inr (inr (inl e))) one = omega (arith, e, one)
+not_one status (inr (inr (inr e))) one = omega (arith, e, one)
+
+pub returns-in-Ok-clause-usage : goal.returns-in-Ok-clause-usage
+returns-in-Ok-clause-usage g c =
+    (λ one. absurd (not_one c.tell-status.result c.tell-status.ensures.which one), λ some. absurd (some (no_items c.args.words.now (sym c.is_empty.ensures ∙ c.if-not-is_empty.false))))
