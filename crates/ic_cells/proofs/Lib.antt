@@ -3,5 +3,5 @@ mod IndexLemmas
 mod Literals
 mod MapLemmas
 mod PlacedLemmas
-mod StringLemmas
 mod StyleLemmas
+mod TextLemmas

@@ -173,7 +173,7 @@ module _ {X : Type 0} (key_of : X → List ℕ) where
       ap (λ b. cond b (Some 0) (option_map suc (place_by_key key_of (key_of x) ys))) (keys x y)
       ∙ ap (λ o. cond (same x y) (Some 0) (option_map suc o)) (place_is same keys x ys)
 
-  key-push : (x : X) (xs : List X) → place_by_key key_of (key_of x) xs ≡ None → (q : List ℕ) → place_by_key key_of q (xs ++ x ∷ []) ≡ cond (bytes_eq (key_of x) q) (Some (length xs)) (place_by_key key_of q xs)
+  pub key-push : (x : X) (xs : List X) → place_by_key key_of (key_of x) xs ≡ None → (q : List ℕ) → place_by_key key_of q (xs ++ x ∷ []) ≡ cond (bytes_eq (key_of x) q) (Some (length xs)) (place_by_key key_of q xs)
   key-push x [] none q = ap (λ b. cond b (Some 0) None) (bytes_eq-flip q (key_of x))
   key-push x (y ∷ ys) none q =
       let parts = none_left (bytes_eq (key_of x) (key_of y)) (place_by_key key_of (key_of x) ys) none in
@@ -183,7 +183,7 @@ module _ {X : Type 0} (key_of : X → List ℕ) where
       let is : key_of x ≡ key_of y = (bytes_eq-Decides (key_of x) q).0 b ∙ (bytes_eq-Decides q (key_of y)).0 a in
       both_ways (bytes_eq (key_of x) (key_of y)) parts.0 ((bytes_eq-Decides (key_of x) (key_of y)).1 is))
 
-  key-take : (q : List ℕ) (n : ℕ) (xs : List X) → place_by_key key_of q (take n xs) ≡ option_filter (λ p. ltb p n) (place_by_key key_of q xs)
+  pub key-take : (q : List ℕ) (n : ℕ) (xs : List X) → place_by_key key_of q (take n xs) ≡ option_filter (λ p. ltb p n) (place_by_key key_of q xs)
   key-take q zero xs = below_zero (place_by_key key_of q xs)
   key-take q (suc n) [] = refl
   key-take q (suc n) (y ∷ ys) =

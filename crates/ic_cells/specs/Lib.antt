@@ -10,4 +10,5 @@ pub mod Note
 pub mod Sheet
 pub mod Strings
 pub mod Style
+pub mod TextPlaces
 pub mod Value

@@ -1,9 +1,8 @@
 -- The texts that the cells of a workbook share, each once, and where one stands among them.
-use Rattle.std.specs.Prelude.{◌≡◌, ℕ, List, Option, true, bytes_eq, encode_utf8_all, String}
-use Rattle.std.specs.BTreeMap.{BTreeMap, get_by_text}
-use Rattle.std.specs.declared.alloc.Global.{Global}
-use Rattle.ic_cells.specs.Key.{place_by_key}
+use Rattle.std.specs.Prelude.{◌≡◌, ℕ, List, Option, true, bytes_eq}
 use Rattle.ic_cells.specs.Listed.{are_apart, number_in, place_in, with_item_in}
+use Rattle.ic_cells.specs.TextPlaces.{Finds}
+use Rattle.ic_cells.specs.declared.text_places.TextPlaces.{TextPlaces}
 
 -- the first place at which a text stands among the shared ones, from 0
 abbrev pub string_place : List ℕ → List (List ℕ) → Option ℕ
@@ -21,7 +20,7 @@ with_string text strings = with_item_in bytes_eq text strings
 pub record AreStrings (strings : List (List ℕ)) : Type 0 where
   pub different : are_apart bytes_eq strings ≡ true
 
--- the map has at each key the first place of the text with these bytes
-pub record IsKnown (places : BTreeMap (String Global) ℕ) (strings : List (List ℕ)) : Type 0 where
-  pub finds : (key : List ℕ) → get_by_text places key ≡ place_by_key encode_utf8_all key strings
+-- what always holds: no text stands twice, and each is found
+pub record IsKnown (places : TextPlaces) (strings : List (List ℕ)) : Type 0 where
+  pub finds : Finds places strings
   pub are_strings : AreStrings strings

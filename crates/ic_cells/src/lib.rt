@@ -19,6 +19,7 @@ mod sheet;
 mod strings;
 mod style;
 mod styles;
+mod text_places;
 mod value;
 mod workbook;
 

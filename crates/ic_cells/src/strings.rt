@@ -1,19 +1,18 @@
-ghost use Rattle.std.specs.Prelude.{◌≡◌, ℕ, List, Some, [], chars, cond, bytes_eq, length, take, IfOk, OnErr, OnOk};
-ghost use Rattle.std.specs.BTreeMap.{get_by_text};
+ghost use Rattle.std.specs.Prelude.{◌≡◌, [], chars, length, take, IfOk, OnErr, OnOk};
 ghost use Rattle.ic_cells.specs.Listed.{IsPlaced};
-ghost use Rattle.ic_cells.specs.Strings.{AreStrings, string_index, with_string};
+ghost use Rattle.ic_cells.specs.Strings.{AreStrings, string_index, string_place, with_string};
 
+use crate::text_places::TextPlaces;
 use ic_laws::{Items, OutOfMemory, Text};
 use std::alloc::Global;
-use std::collections::BTreeMap;
 use std::marker::Model;
 
 /// The texts that the cells of a workbook share, by index from 0. No text stands twice. Callers see the list; beside it
-/// stands a map from each text to its index, so that one of many texts is found at once.
+/// stands where each is found, so that one of many texts is found at once.
 pub struct SharedStrings {
     alloc: Global,
     list: Items<Text>,
-    places: BTreeMap<String, usize>,
+    places: TextPlaces,
 }
 
 impl Drop for SharedStrings {
@@ -48,7 +47,7 @@ impl SharedStrings {
         SharedStrings {
             alloc,
             list: Items::from(Vec::new(alloc)),
-            places: BTreeMap::new(alloc),
+            places: TextPlaces::new(alloc),
         }
     }
 
@@ -77,13 +76,13 @@ impl SharedStrings {
         ensures placed { IfOk result (λ n. IsPlaced (chars text.now) n self.old self.new) }
         ensures err { OnErr result (self.new ≡ self.old) }
     {
-        if let Some(at) = self.places.get(text) {
-            return Ok(*at);
+        if let Some(at) = self.find(text) {
+            return Ok(at);
         }
         let copy = Text::from_str(self.alloc, text)?;
         let at = self.list.len();
         self.list.push(copy)?;
-        match put_place(self.alloc, &mut self.places, text, at) {
+        match self.places.put(self.alloc, text, at) {
             Ok(()) => Ok(at),
             Err(error) => {
                 self.list.truncate(at);
@@ -92,28 +91,18 @@ impl SharedStrings {
         }
     }
 
+    /// The index of a text.
+    fn find(&self, text: &str) -> Option<usize>
+        ensures { result ≡ string_place (chars text.now) self.now }
+    {
+        self.places.find(self.list.as_slice(), text)
+    }
+
     /// Keeps the first `len` texts. Where there are no more, all stay.
     pub fn truncate(&mut self, len: usize)
         ensures { self.new ≡ take len self.old }
     {
-        self.places.retain(|_, place| *place < len);
+        self.places.truncate(len);
         self.list.truncate(len);
     }
-}
-
-/// Puts a text and its place in. `OutOfMemory` changes nothing.
-fn put_place(
-    alloc: Global,
-    places: &mut BTreeMap<String, usize>,
-    text: &str,
-    place: usize,
-) -> Result<(), OutOfMemory>
-    ensures ok { OnOk result ((q : List ℕ) → get_by_text places.new q
-        ≡ cond (bytes_eq text.now q) (Some place) (get_by_text places.old q)) }
-    ensures err { OnErr result ((q : List ℕ) → get_by_text places.new q
-        ≡ get_by_text places.old q) }
-{
-    let key = String::from_str(alloc, text)?;
-    places.insert(key, place)?;
-    Ok(())
 }
