@@ -1,5 +1,6 @@
 -- A deleted sheet and a deleted definition: what becomes of each mention, and that the sites of what is gone are listed.
 use Rattle.std.proofs.Common.{◌≡◌, ◌⊎◌, inl, inr, ℕ, zero, suc, ◌<◌, List, [], ◌∷◌, ◌++◌, map, Bool, true, false, cond, ◌&&◌, ◌||◌, Option, Some, None, option_map, is_some, refl, sym, ap, subst, ◌∙◌, flat_map, arith}
+use mathlib.Core.Bool.{and-false as no_and}
 use Rattle.std.specs.Prelude.{bytes_eq, remove, slice_get}
 use Rattle.std.specs.FinMap as finite
 use Rattle.std.specs.List.{AllByRecursion, AllZip, Contains, IsDistinct, find, list_any}
@@ -253,10 +254,6 @@ sheet_is_gone b after index sheet fields valid at e =
     (delete_dangles (notations_in b) (core_of b) (core_of after) index (core_sheet sheet) left.0 (notations_are b.tables valid.tables) (core_valid b valid) (slice_get-map core_sheet b.sheets index ∙ ap (option_map core_sheet) at) left.1)
 
 -- ---- a definition goes
-
-no_and : (b : Bool) → (b && false) ≡ false
-no_and true = refl
-no_and false = refl
 
 found_any : (p : NameSpelling → Bool) (ds : List Definition) → is_some (find p (map spelling_of ds)) ≡ list_any (λ d. p (spelling_of d)) ds
 found_any p [] = refl

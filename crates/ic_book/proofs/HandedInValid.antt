@@ -85,9 +85,6 @@ module _ (w : Workbook) (language : List ℕ) (tables : TableSet) (numbers : Lis
 -- what refuses a workbook, by what the tables have
 
 module _ (w : Workbook) (language : List ℕ) (tables : TableSet) where
-  pub lacks_locale : locale_of tables w.settings.locale ≡ None → notation_refusal w language tables ≡ Some InvalidLocale
-  lacks_locale none = ap (λ (o : Option NamedLocale). first_refusal ((is_none o, InvalidLocale) ∷ (not (lists_zone tables w.settings.tz), InvalidTimezone) ∷ (is_none (language_of tables language), InvalidLanguage) ∷ [])) none
-
   module _ (l : NamedLocale) (has_locale : locale_of tables w.settings.locale ≡ Some l) where
     after_locale : notation_refusal w language tables ≡ first_refusal ((not (lists_zone tables w.settings.tz), InvalidTimezone) ∷ (is_none (language_of tables language), InvalidLanguage) ∷ [])
     after_locale = ap (λ (o : Option NamedLocale). first_refusal ((is_none o, InvalidLocale) ∷ (not (lists_zone tables w.settings.tz), InvalidTimezone) ∷ (is_none (language_of tables language), InvalidLanguage) ∷ [])) has_locale

@@ -7,8 +7,6 @@ use Rattle.ic_laws.specs.CoreBook.{CellPlace}
 use Rattle.ic_laws.specs.CoreStep.{updated_at}
 use Rattle.ic_cells.specs.declared.cell.Cell.{Cell}
 use Rattle.ic_cells.specs.declared.style.Style.{Style}
-use Rattle.ic_grid.specs.Shape.{celled}
-use Rattle.ic_grid.specs.Style.{style_at}
 use Rattle.ic_machine.specs.Book as machine
 use Rattle.ic_machine.specs.Book.{Stepped}
 use Rattle.ic_machine.specs.Content.{Content}
@@ -34,10 +32,6 @@ use Rattle.ic_parts.proofs.ValueLemmas.{step_accepted, step_leaves, step_refused
 
 pub refusal_there : (book : Book) (index : ℕ) (row column : ℤ) (p : CellPlace) → p ≡ (row, column) → (o : Option Refusal) → value_refusal_in p (slice_get book.sheets index) ≡ o → value_refusal book index row column ≡ o
 refusal_there book index row column p same o e = ap (λ p. value_refusal_in p (slice_get book.sheets index)) (sym same) ∙ e
-
-pub shows_there : (book : Book) (index : ℕ) (row column : ℤ) (n : ℕ) (p : CellPlace) → p ≡ (row, column)
-    → IfSome (slice_get book.sheets index) (λ (s : Sheet). n ≡ style_at celled s.grid.cells s.grid.rows s.grid.columns p) → Shows book index row column n
-shows_there book index row column n p same e = subst (λ (p : CellPlace). IfSome (slice_get book.sheets index) (λ (s : Sheet). n ≡ style_at celled s.grid.cells s.grid.rows s.grid.columns p)) same e
 
 -- What the call does. ----
 

@@ -12,12 +12,12 @@ use Rattle.ic_cells.specs.Listed.{IsFirstAt, IsPlaced, are_apart, number_in, pla
 
 -- ---- choices
 
-none_left : (b : Bool) (o : Option ℕ) → cond b (Some 0) (option_map suc o) ≡ None → (b ≡ false) × (o ≡ None)
+pub none_left : (b : Bool) (o : Option ℕ) → cond b (Some 0) (option_map suc o) ≡ None → (b ≡ false) × (o ≡ None)
 none_left true o e = cc
 none_left false None e = (refl, refl)
 none_left false (Some k) e = cc
 
-none_is : (o : Option ℕ) → not (is_some o) ≡ true → o ≡ None
+pub none_is : (o : Option ℕ) → not (is_some o) ≡ true → o ≡ None
 none_is None e = refl
 none_is (Some k) e = cc
 

@@ -26,7 +26,7 @@ flag_is true false e = cc
 flag_is false true e = cc
 flag_is false false e = refl
 
-flag_again : (a : Bool) → is_flag a a ≡ true
+pub flag_again : (a : Bool) → is_flag a a ≡ true
 flag_again true = refl
 flag_again false = refl
 
@@ -36,7 +36,7 @@ color_is colors.None (colors.Rgb b) e = cc
 color_is (colors.Rgb a) colors.None e = cc
 color_is (colors.Rgb a) (colors.Rgb b) e = ap colors.Rgb ((bytes_eq-Decides a b).0 e)
 
-color_again : (a : Color) → is_color a a ≡ true
+pub color_again : (a : Color) → is_color a a ≡ true
 color_again colors.None = refl
 color_again (colors.Rgb a) = (bytes_eq-Decides a a).1 refl
 
@@ -49,7 +49,7 @@ style_is a b e =
     same_fields a b ((bytes_eq-Decides a.num_fmt b.num_fmt).0 three.0) (flag_is a.quote_prefix b.quote_prefix three.1) (flag_is a.bold b.bold two.1)
     (color_is a.fill b.fill one.1)
 
-style_again : (a : Style) → is_style a a ≡ true
+pub style_again : (a : Style) → is_style a a ≡ true
 unfolding is_style
 style_again a =
     and_from _ _ (and_from _ _ (and_from _ _ ((bytes_eq-Decides a.num_fmt a.num_fmt).1 refl) (flag_again a.quote_prefix)) (flag_again a.bold))

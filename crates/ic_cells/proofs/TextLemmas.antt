@@ -1,5 +1,5 @@
 -- The texts are found as the list changes.
-use Rattle.std.proofs.Common.{◌≡◌, ◌⊎◌, inl, inr, ℕ, zero, suc, ◌<◌, ◌+◌, List, [], ◌∷◌, ◌++◌, Bool, true, false, cond, Option, Some, None, refl, sym, ap, ap₂, subst, ◌∙◌, length, take, min, ltb, ltb-true, lt-ltb, eq-eqb, eqb-true, bytes_eq, encode_utf8_all, map, chars, string_bytes, String, arith}
+use Rattle.std.proofs.Common.{◌≡◌, inl, inr, ℕ, zero, suc, ◌<◌, ◌+◌, List, [], ◌∷◌, ◌++◌, Bool, true, false, cond, Option, Some, None, refl, sym, ap, ap₂, subst, ◌∙◌, length, take, ltb, ltb-true, lt-ltb, eq-eqb, eqb-true, bytes_eq, encode_utf8_all, map, chars, string_bytes, String, arith}
 use Rattle.std.specs.Prelude.{nat_eq}
 use Rattle.std.proofs.lemmas.List.{length-append, length-take}
 use Rattle.std.proofs.lemmas.Map.Entries.{lookup-filter-values, option_filter}
@@ -21,7 +21,7 @@ use Rattle.std.specs.declared.alloc.Global.{Global}
 use Rattle.std.specs.declared.cmp.Ordering.TheVariants.{Less}
 use Rattle.ic_cells.specs.Key.{place_by_key}
 use Rattle.ic_cells.specs.Strings.{IsKnown, string_place}
-use Rattle.ic_cells.specs.TextPlaces.{Finds, HasNone, IsHashed, IsKept, IsPut, IsSame, KeepsFirst, below, checked, first_of, has_bytes, hash_of, text_found}
+use Rattle.ic_cells.specs.TextPlaces.{Finds, IsHashed, IsKept, IsPut, KeepsFirst, below, checked, first_of, has_bytes, hash_of, text_found}
 use Rattle.ic_cells.specs.declared.text_places.TextPlaces.{TextPlaces}
 use Rattle.ic_cells.proofs.PlacedLemmas.{apart-push, apart-take, bytes_eq-flip, key-push, key-take, place_is}
 
@@ -31,7 +31,7 @@ first_place bytes texts = place_by_key encode_utf8_all bytes texts
 -- ---- by bytes and by characters
 
 -- texts are equal exactly where their bytes are
-same_bytes : (a b : List ℕ) → bytes_eq (encode_utf8_all a) (encode_utf8_all b) ≡ bytes_eq a b
+pub same_bytes : (a b : List ℕ) → bytes_eq (encode_utf8_all a) (encode_utf8_all b) ≡ bytes_eq a b
 same_bytes a b =
     one_answer _ _ (bytes_eq-Decides (encode_utf8_all a) (encode_utf8_all b))
     ((λ e. ap encode_utf8_all ((bytes_eq-Decides a b).0 e)), (λ e. (bytes_eq-Decides a b).1 (encodes_same a b e)))
@@ -53,27 +53,7 @@ found places texts bytes utf8 known =
     known.finds.found bytes
     ∙ ap (λ b. first_place b texts) (sym (encodes-chars bytes utf8)) ∙ place_of_bytes (chars bytes) texts
 
-pub known_none : (places : TextPlaces) → HasNone places → IsKnown places []
-known_none places none = record {
-  finds = record {
-    found = λ bytes. ap₂ first_of (ap (checked [] bytes) (none.by_hash (hash_of bytes))) (none.by_text bytes);
-    within = λ hash at e. let no : None ≡ Some at = sym (none.by_hash hash) ∙ e in cc;
-    are_first = λ bytes at e. let no : None ≡ Some at = sym (none.by_text bytes) ∙ e in cc;
-  };
-  are_strings = record { different = refl };
-}
-
 -- ---- the same indexes
-
-pub known_same : (before after : TextPlaces) (texts : List (List ℕ)) → IsSame before after → IsKnown before texts → IsKnown after texts
-known_same before after texts same known = record {
-  finds = record {
-    found = λ bytes. ap₂ first_of (ap (checked texts bytes) (same.by_hash (hash_of bytes))) (same.by_text bytes) ∙ known.finds.found bytes;
-    within = λ hash at e. known.finds.within hash at (sym (same.by_hash hash) ∙ e);
-    are_first = λ bytes at e. known.finds.are_first bytes at (sym (same.by_text bytes) ∙ e);
-  };
-  are_strings = known.are_strings;
-}
 
 -- ---- a text at the end
 

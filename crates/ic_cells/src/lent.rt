@@ -5,9 +5,8 @@ ghost use Rattle.ic_cells.specs.Lent.{value_lent};
 ghost use Rattle.ic_cells.specs.Value.{boolean_word, error_word, formula_type, formula_value, spill_type, spill_value};
 
 use crate::{ArrayValue, Cell, CellType, CellValue, FormulaValue, SpillValue};
-use ic_laws::scan::first_char;
 use ic_laws::{Amount, Error, OutOfMemory, Text};
-use ic_tables::{Language, Locale};
+use ic_tables::Language;
 use std::alloc::Global;
 
 /// What a formula without a value shows, in every language.

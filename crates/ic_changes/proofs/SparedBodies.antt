@@ -1,5 +1,6 @@
 -- Bodies that a change leaves, since all was found in them.
 use Rattle.std.proofs.Common.{◌≡◌, ℕ, List, [], ◌∷◌, map, Bool, true, false, ◌&&◌, ◌||◌, cond, Option, Some, None, sym, ap, ◌∙◌, refl}
+use mathlib.Core.Bool.{and-false as and_false}
 use Rattle.std.specs.Prelude.{bytes_eq, option_map}
 use Rattle.std.specs.List.{AllByRecursion, find, list_any}
 use Rattle.std.specs.Option.{option_or}
@@ -30,10 +31,6 @@ use Rattle.ic_definitions.specs.Bodies.{StaysWhereFound}
 use Rattle.ic_pool.proofs.ChangeLemmas.{naming_spares_found, untouched_stays}
 use Rattle.ic_pool.specs.Mentions.{formula_after, has_dangling, is_dangling, is_dangling_local, is_dangling_word}
 use Rattle.ic_parts.proofs.MentionPairs.{mentions_both}
-
-and_false : (a : Bool) → (a && false) ≡ false
-and_false true = refl
-and_false false = refl
 
 is_there : {X : Type 0} → Option X → Bool
 is_there None = false

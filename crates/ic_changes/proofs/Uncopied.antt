@@ -1,7 +1,7 @@
 -- Definitions none of which is copied with a sheet, or mentions what is looked for.
 use Rattle.std.proofs.Common.{◌≡◌, ℕ, ◌<◌, List, [], ◌∷◌, ◌++◌, map, Bool, true, false, cond, ◌&&◌, Option, Some, None, max, option_to_list, refl, sym, ap, ap₂, ◌∙◌, append-nil, arith}
 use Rattle.std.specs.List.{AllByRecursion, filter}
-use Rattle.std.specs.Prelude.{flat_map, is_none, nat_eq, not}
+use Rattle.std.specs.Prelude.{flat_map, is_none}
 use Rattle.std.proofs.lemmas.Bool.{ne_eqb}
 use Rattle.ic_laws.specs.CoreBook.{Definition}
 use Rattle.ic_laws.specs.Greatest.{greatest}
@@ -17,7 +17,6 @@ use Rattle.ic_parts.specs.declared.sites.MentionSite.{MentionSite}
 use Rattle.ic_parts.specs.declared.sites.MentionSite.TheVariants as sites
 use Rattle.ic_changes.specs.Copied.{is_copied}
 use Rattle.ic_changes.specs.Mentioning.{definition_passing}
-use Rattle.ic_changes.specs.declared.sheet_copies.definitions.CopiedKind.{CopiedKind}
 use Rattle.ic_changes.specs.declared.sheet_copies.definitions.CopiedKind.TheVariants as kinds
 
 -- ---- none is listed
@@ -31,7 +30,7 @@ none_listed test ds items h = sym (append-nil items) ∙ ap (λ more. items ++ m
 
 -- ---- none is copied
 
-none_filtered : {X : Type 0} (test : X → Bool) (xs : List X) → AllByRecursion (λ x. test x ≡ false) xs → filter test xs ≡ []
+pub none_filtered : {X : Type 0} (test : X → Bool) (xs : List X) → AllByRecursion (λ x. test x ≡ false) xs → filter test xs ≡ []
 none_filtered test [] h = refl
 none_filtered test (x ∷ xs) h = ap (λ (b : Bool). cond b (x ∷ filter test xs) (filter test xs)) h.0 ∙ none_filtered test xs h.1
 

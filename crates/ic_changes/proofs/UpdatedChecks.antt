@@ -23,12 +23,6 @@ use Rattle.ic_parts.proofs.NameLemmas.{scope_is}
 use Rattle.ic_parts.proofs.WholeLemmas.{whole_core}
 
 module _ (book : Book) (u : Update) (good : is_identifier u.new_name ≡ true) (old new : Option ℕ) (from : scope_of (core_of book) u.scope ≡ Some old) (to : scope_of (core_of book) u.new_scope ≡ Some new) where
-  abbrev whole : machine.Book
-  whole = whole_of book
-
-  abbrev seen : CoreBook
-  seen = machine.core_of (whole_of book)
-
   abbrev told : Option Refusal
   told = first_refusal (question_causes (whole_of book) u)
 

@@ -31,7 +31,7 @@ one_there f (Some x) y e = (x, refl)
 
 -- ---- what is made of each sheet, one after another
 
-begins : {X : Type 0} (xs : List X) (i : ℕ) (x : X) → slice_get xs i ≡ Some x → drop i xs ≡ x ∷ drop (suc i) xs
+pub begins : {X : Type 0} (xs : List X) (i : ℕ) (x : X) → slice_get xs i ≡ Some x → drop i xs ≡ x ∷ drop (suc i) xs
 begins [] i x e = cc
 begins (y ∷ xs) zero x e = let same : y ≡ x = cc in ap (λ z. z ∷ xs) same
 begins (y ∷ xs) (suc i) x e = begins xs i x e

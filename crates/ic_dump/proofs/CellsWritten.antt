@@ -68,6 +68,8 @@ use Rattle.ic_dump.proofs.ListLemmas.{sorted_before, updated_seam}
 use Rattle.ic_dump.proofs.RunLemmas.{accepted_both, line_accepted, line_leaves, run, run_both}
 use Rattle.ic_dump.proofs.SaidAgain.{position_again}
 use Rattle.ic_dump.proofs.TextsRead.{cell_read}
+use Rattle.ic_grid.proofs.WriteLemmas.{none_there as nothing_there}
+use Rattle.ic_machine.proofs.LineRead.{made_of as mapped_some}
 
 -- Cells in their order. ----
 
@@ -90,17 +92,9 @@ column_again (negsuc n) h = absurd (cc)
 
 -- Texts. ----
 
-mapped_some : {A B : Type 0} (g : A → B) (o : Option A) (y : B) → option_map g o ≡ Some y → (x : A) × (o ≡ Some x) × (g x ≡ y)
-mapped_some g None y e = absurd (cc)
-mapped_some g (Some x) y e = (x, refl, (let same : g x ≡ y = cc in same))
-
 formula_text : (text : List ℕ) → (text ≡ [] → ⊥) → is_formula_text (equals ∷ text) ≡ true
 formula_text [] h = absurd (h refl)
 formula_text (c ∷ cs) h = refl
-
-nothing_there : {A : Type 0} (o : Option A) → is_some o ≡ false → o ≡ None
-nothing_there None e = refl
-nothing_there (Some x) e = cc
 
 empty_length : (text : List ℕ) → text ≡ [] → nat_eq (length text) 0 ≡ true
 empty_length text e = ap (λ (t : List ℕ). nat_eq (length t) 0) e

@@ -16,6 +16,7 @@ use Rattle.std.specs.declared.cmp.Ordering.TheVariants.{Less}
 use Rattle.ic_laws.specs.CoreStep.{updated_at}
 use Rattle.ic_machine.proofs.ValidLemmas.{all_of}
 use Rattle.ic_machine.proofs.CopyKeys.{all_appended}
+pub use Rattle.ic_changes.proofs.Uncopied.{none_filtered}
 
 -- What holds of all of a list. ----
 
@@ -170,10 +171,6 @@ pub record IsOnly {A : Type 0} (p : A → Bool) (xs : List A) : Type 0 where
   pub it : A
   pub alone : filter p xs ≡ it ∷ []
   pub passes : p it ≡ true
-
-pub none_filtered : {A : Type 0} (p : A → Bool) (xs : List A) → AllByRecursion (λ x. p x ≡ false) xs → filter p xs ≡ []
-none_filtered p [] h = refl
-none_filtered p (x ∷ xs) h = rw h.0 (none_filtered p xs h.1)
 
 pub only_one : {A K : Type 0} (p : A → Bool) (key : A → K) (same : K → K → Bool) → ((x y : A) → p x ≡ true → same (key x) (key y) ≡ false → p y ≡ false) → (xs : List A) → IsDistinct same (map key xs) → list_any p xs ≡ true → IsOnly p xs
 unfolding IsDistinct

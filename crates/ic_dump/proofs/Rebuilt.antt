@@ -1,7 +1,7 @@
 -- The lines of a dump rebuild the skeleton of the book from each new one.
-use Rattle.std.proofs.Common.{◌≡◌, [], ◌∷◌, true, false, not, Option, Some, None, codes, refl, sym, ap, subst}
+use Rattle.std.proofs.Common.{◌≡◌, [], ◌∷◌, not, Option, Some, None, codes, refl, sym, ap, subst}
 use Rattle.std.proofs.lemmas.Bool.{not-false}
-use Rattle.std.specs.Prelude.{IsNone, is_none, is_some}
+use Rattle.std.specs.Prelude.{IsNone, is_none}
 use Rattle.ic_laws.proofs.keeping.Accepted.{none_holds}
 use Rattle.ic_laws.specs.CoreBook.{CoreBook}
 use Rattle.ic_laws.specs.Refusal.{InvalidLanguage, InvalidLocale, InvalidTimezone}
@@ -17,10 +17,7 @@ use Rattle.ic_dump.specs.Rebuilds.{Rebuilds, RebuildsFrom}
 use Rattle.ic_dump.specs.Refused.{cause_of}
 use Rattle.ic_dump.specs.Stages.{Fills, HasFewNames, book_started}
 use Rattle.ic_dump.proofs.AllStages.{all_stages}
-
-some_there : {A : Type 0} (o : Option A) → is_none o ≡ false → is_some o ≡ true
-some_there None e = cc
-some_there (Some x) e = refl
+use Rattle.ic_workbooks.proofs.AcceptedWorkbook.{some_there}
 
 none_there : {A : Type 0} (o : Option A) → IsNone o → o ≡ None
 none_there None e = refl

@@ -1,11 +1,12 @@
 -- What stands at an index, and the lines of what is left.
-use Rattle.std.proofs.Common.{◌≡◌, ◌++◌, ◌∷◌, [], ◌∙◌, ℕ, ◌+◌, ◌-◌, ◌<◌, ◌≤◌, zero, suc, List, Bool, true, false, cond, ap, append_assoc, append-nil, drop, filter, get_or, length, map, refl, reverse, sym, arith}
+use Rattle.std.proofs.Common.{◌≡◌, ◌++◌, ◌∷◌, [], ◌∙◌, ℕ, ◌+◌, ◌-◌, ◌<◌, ◌≤◌, suc, List, Bool, true, false, cond, ap, append_assoc, append-nil, drop, filter, get_or, length, map, refl, reverse, sym}
 use Rattle.std.proofs.lemmas.List.{drop_all, drop_more, reverse-append}
 use Rattle.std.proofs.Math.Numerals.{add-one}
 use Rattle.std.specs.List.{range_with_len}
 use Rattle.std.specs.Prelude.{flat_map, nat_eq}
 use Rattle.ic_laws.specs.declared.scene.SheetName.{SheetName}
 use Rattle.ic_dump.specs.Lines.{Text, deleting_line, first_id, inserting_line, inserting_lines_from, is_first, naming_line}
+use Rattle.ic_parts.proofs.MarkupLemmas.{range_more}
 
 -- what is left begins with what stands there
 pub left_of : {X : Type 0} (xs : List X) (i : ℕ) (x : X) → i < length xs → x ≡ get_or xs i x → drop i xs ≡ x ∷ drop (i + 1) xs
@@ -42,11 +43,6 @@ inserting_next sheets i s lines new all below item so_far put =
     ap (λ v. v ++ inserting_lines_from (i + 1) (drop (i + 1) sheets)) put ∙ append_assoc lines its (inserting_lines_from (i + 1) (drop (i + 1) sheets))
     ∙ ap (λ n. lines ++ (its ++ inserting_lines_from n (drop (i + 1) sheets))) (add-one i)
     ∙ ap (λ ys. lines ++ inserting_lines_from i ys) (sym (left_of sheets i s below item)) ∙ so_far
-
--- numbers from the last on
-range_more : (a n : ℕ) → range_with_len a (suc n) ≡ range_with_len a n ++ (a + n) ∷ []
-range_more a zero = let same : a ≡ a + zero = omega arith in ap (λ x. x ∷ []) same
-range_more a (suc n) = let same : a + 1 + n ≡ a + suc n = omega arith in ap (λ rest. a ∷ rest) (range_more (a + 1) n ∙ ap (λ x. range_with_len (a + 1) n ++ x ∷ []) same)
 
 pub deleting_next : (own count gone index left fewer : ℕ) (lines new all : List Text) → left ≡ suc fewer → index ≡ own + fewer → lines ++ map deleting_line (reverse (range_with_len own left)) ≡ all → new ≡ lines ++ deleting_line index ∷ [] → new ++ map deleting_line (reverse (range_with_len own fewer)) ≡ all
 deleting_next own count gone index left fewer lines new all e at so_far put =

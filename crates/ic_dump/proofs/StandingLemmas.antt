@@ -15,6 +15,7 @@ use Rattle.ic_laws.specs.declared.scene.SheetName.{SheetName}
 use Rattle.ic_dump.proofs.StageLemmas.{left_of}
 use Rattle.ic_dump.specs.Passing.{other_ids, sheet_named}
 use Rattle.ic_dump.specs.Records.{AreFound, AreOthers}
+use Rattle.ic_dump.proofs.CellLemmas.{begins}
 
 -- ---- a sheet more is found by its id
 
@@ -107,11 +108,6 @@ past_end [] zero e = (refl, refl)
 past_end [] (suc i) e = (refl, refl)
 past_end (x ∷ xs) zero e = cc
 past_end (x ∷ xs) (suc i) e = past_end xs i e
-
-begins : {X : Type 0} (xs : List X) (i : ℕ) (x : X) → slice_get xs i ≡ Some x → drop i xs ≡ x ∷ drop (suc i) xs
-begins [] i x e = cc
-begins (y ∷ xs) zero x e = let same : y ≡ x = cc in ap (λ z. z ∷ xs) same
-begins (y ∷ xs) (suc i) x e = begins xs i x e
 
 zip_next : (names : List (List ℕ)) (i id : ℕ) (ids : List ℕ) (name : Option (List ℕ)) → slice_get names i ≡ name → map sheet_named (zip (id ∷ ids) (drop i names)) ≡ option_to_list (option_map (λ n. sheet_named (id, n)) name) ++ map sheet_named (zip ids (drop (suc i) names))
 zip_next names i id ids None e =

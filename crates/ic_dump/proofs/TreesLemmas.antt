@@ -1,9 +1,10 @@
 -- A book all of whose formulas read has no cause.
-use Rattle.std.proofs.Common.{◌≡◌, ◌++◌, ◌∷◌, [], ◌∙◌, ◌||◌, ℕ, List, Bool, true, false, cond, Option, None, Some, ap, ap₂, find, map, option_map, refl, sym}
+use Rattle.std.proofs.Common.{◌≡◌, ◌++◌, ◌∷◌, [], ◌∙◌, ℕ, List, false, cond, Option, None, Some, ap, ap₂, find, map, option_map, refl, sym}
 use Rattle.std.proofs.lemmas.List.Folds.{list_any-append}
 use Rattle.std.specs.List.{list_any, slice_get}
 use Rattle.std.specs.Option.{option_or}
 use Rattle.std.specs.Prelude.{flat_map}
+use Rattle.std.proofs.lemmas.Bool.{or_parts as either_not}
 use Rattle.ic_laws.specs.CoreBook.{CellPlace, Cells, Definition, Sheet, spelling_of}
 use Rattle.ic_laws.specs.Notations.{Notations}
 use Rattle.ic_laws.specs.Scene.{key_of}
@@ -12,10 +13,6 @@ use Rattle.ic_laws.specs.declared.tree.Formula.TheVariants as formulas
 use Rattle.ic_laws.specs.declared.tree.NameKey.{NameKey}
 use Rattle.ic_machine.specs.Refusal.{Site}
 use Rattle.ic_dump.specs.Refused.{RawBody, Rereads, TreesHaveLines, is_raw, raw_body, rereading, rereading_cell, rereads}
-
-either_not : (a b : Bool) → (a || b) ≡ false → (a ≡ false) × (b ≡ false)
-either_not true b e = cc
-either_not false b e = (refl, e)
 
 both_not : (xs ys : List Formula) → list_any is_raw (xs ++ ys) ≡ false → (list_any is_raw xs ≡ false) × (list_any is_raw ys ≡ false)
 both_not xs ys e = either_not (list_any is_raw xs) (list_any is_raw ys) (sym (list_any-append is_raw xs ys) ∙ e)

@@ -1,6 +1,6 @@
 -- Which numbers and places blocks hold, as they grow by a column or a row.
 use Rattle.std.proofs.Common.{◌≡◌, ◌∙◌, refl, sym, ap, ap₂, Bool, true, false, ◌&&◌, ◌||◌, ℤ, pos, arith}
-use Rattle.std.proofs.lemmas.Bool.{and_parts, and_from}
+use Rattle.std.proofs.lemmas.Bool.{and_parts, and_from, and_right as right_false}
 use Rattle.std.proofs.lemmas.Bool.Decides.{Decides-int_eq}
 use Rattle.std.proofs.lemmas.Int.{ints}
 use Rattle.std.specs.Prelude.{int_le, int_lt, ◌+ℤ◌, ◌≤ℤ◌}
@@ -46,10 +46,6 @@ and_spread true true false = refl
 and_spread true false true = refl
 and_spread true false false = refl
 and_spread false b c = refl
-
-right_false : (a b : Bool) → b ≡ false → (a && b) ≡ false
-right_false true b e = e
-right_false false b e = refl
 
 -- no columns yet, and no rows
 pub no_columns : (row last_row column : ℤ) (q : Place) → is_in_lines row last_row column column q ≡ false

@@ -1,7 +1,7 @@
 -- A block in which no cell tells of an array with a cell outside: each array with a cell in it lies in it whole, so that
 -- nothing outside changes when it is cleared.
 use Rattle.std.proofs.Common.{◌≡◌, ◌∙◌, refl, sym, ap, ℤ, Bool, true, false, cond, not, ◌&&◌, Option, Some, None, inl, inr, ◌⊎◌}
-use Rattle.std.proofs.lemmas.Bool.{and_from, and_parts, both_ways}
+use Rattle.std.proofs.lemmas.Bool.{and_from, and_parts, both_ways, not-false as unnot}
 use Rattle.std.proofs.lemmas.Int.{ints}
 use Rattle.std.proofs.Common.{arith}
 use Rattle.std.specs.FinMap as finite
@@ -24,10 +24,6 @@ use Rattle.ic_grid.specs.Shape.{Anchor, SpillOf, celled}
 use Rattle.ic_grid.specs.declared.arrays.Sought.TheVariants as sought
 use Rattle.ic_grid.specs.declared.block.Array.{Array}
 use Rattle.ic_grid.specs.declared.block.Block.{Block}
-
-unnot : (t : Bool) → not t ≡ false → t ≡ true
-unnot true e = refl
-unnot false e = cc
 
 -- a place of a block is one of each block that it is within
 span_further : (f n g k at : ℤ) → is_span_within f n g k ≡ true → is_in_span f n at ≡ true → is_in_span g k at ≡ true

@@ -1,5 +1,5 @@
 -- The places of an ordered map are those of the finite map, in the same order.
-use Rattle.std.proofs.Common.{◌≡◌, ◌∙◌, sym, ap, subst, Bool, true, false, T, ◌&&◌, List, [], ◌∷◌, map}
+use Rattle.std.proofs.Common.{◌≡◌, sym, subst, Bool, true, false, T, ◌&&◌, List, [], ◌∷◌, map}
 use Rattle.std.specs.FinMap as finite
 use Rattle.std.specs.FinMap.{is_sorted}
 use Rattle.std.specs.FinMap.Entries.{below_all}
@@ -8,7 +8,6 @@ use Rattle.std.specs.List.Sorted.{IsStrictlySortedBy}
 use Rattle.std.specs.Ordering.{is_lt}
 use Rattle.std.specs.declared.cmp.Ordering.TheVariants.{Less}
 use Rattle.ic_cells.specs.Maps.{place_cmp}
-use Rattle.ic_laws.proofs.core.CellWritten.{place_cmp_total, place_tied}
 use Rattle.ic_grid.specs.Block.{Place}
 
 two : (a b : Bool) → T a → T b → T (a && b)
@@ -24,9 +23,3 @@ module _ {X : Type 0} where
   unfolding IsStrictlySortedBy
   sorted_entries [] h = tt
   sorted_entries (e ∷ es) h = two (below_all place_cmp e.0 es) (is_sorted place_cmp es) (below e.0 es h.0) (sorted_entries es h.1)
-
-  entries_back : (es : List (Place × X)) → IsStrictlySortedBy place_cmp (map (λ (e : Place × X). e.0) es) → finite.entries (finite.from_entries {R = place_cmp} es) ≡ es
-  entries_back es h =
-      ap finite.entries (finite.same_map place_cmp_total place_tied (finite.from_entries {R = place_cmp} es) (finite.from_sorted {R = place_cmp} es)
-      (λ q. finite.get-from_entries place_cmp_total es q ∙ sym (finite.get-from_sorted place_cmp es q (sorted_entries es h))))
-      ∙ finite.entries-from_sorted place_cmp es (sorted_entries es h)

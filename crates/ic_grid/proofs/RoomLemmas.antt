@@ -19,10 +19,7 @@ use Rattle.ic_grid.specs.Shape.{celled, shape_of}
 use Rattle.ic_grid.specs.Walk.{is_from, is_left}
 use Rattle.ic_grid.specs.declared.block.Block.{Block}
 use Rattle.ic_grid.specs.declared.changes.Change.TheVariants as changes
-
-no_thing : {X : Type 0} (o : Option X) → is_some o ≡ false → o ≡ None
-no_thing None e = refl
-no_thing (Some x) e = cc
+use Rattle.ic_grid.proofs.WriteLemmas.{none_there as no_thing}
 
 module _ (m : Contents Cell) (q : Place) where
   marked_get : (p : Place) → (finite.get (marked_at q m) p ≡ finite.get m p) ⊎ ((p ≡ q) × (finite.get m p ≡ None) × (finite.get (marked_at q m) p ≡ Some placeholder))

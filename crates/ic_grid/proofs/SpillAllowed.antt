@@ -1,6 +1,6 @@
 -- A block that an array may have: what holds of it.
 use Rattle.std.proofs.Common.{◌≡◌, ◌∙◌, refl, sym, ap, ap₂, subst, ℕ, ℤ, pos, suc, Bool, true, false, cond, not, ◌&&◌, ◌||◌, List, [], ◌∷◌, length, Option, Some, None, Ok, Err}
-use Rattle.std.proofs.lemmas.Bool.{both_ways}
+use Rattle.std.proofs.lemmas.Bool.{both_ways, or_left as either_true, or_right as or_true}
 use Rattle.std.proofs.lemmas.Bool.Decides.{Decides-int_eq}
 use Rattle.std.specs.FinMap as finite
 use Rattle.std.specs.Option.{option_and_then, option_map, unwrap_or}
@@ -53,14 +53,6 @@ same_area false y e = cc
 none_blocked : (o : Option Place) → blocked_by o ≡ Ok tt → o ≡ None
 none_blocked None e = refl
 none_blocked (Some q) e = cc
-
-or_true : (x y : Bool) → y ≡ true → (x || y) ≡ true
-or_true true y e = refl
-or_true false y e = e
-
-either_true : (x y : Bool) → x ≡ true → (x || y) ≡ true
-either_true true y e = refl
-either_true false y e = cc
 
 module _ (merges : List Merge) (m : Contents Cell) (b : Block) (count : ℕ) (w t : ℤ) (kind : ArrayKind) (inside : AreInSheet celled m) (ok : AreArrays celled m) (good : AreMerges celled m merges) (old : Has celled m (first_place b) (Anchor w t kind)) where
   abbrev a : Place

@@ -1,6 +1,6 @@
 -- Arrays that have their spills, and merges that lie apart, told entry by entry.
 use Rattle.std.proofs.Common.{◌≡◌, ◌∙◌, refl, sym, ap, subst, ℤ, Bool, true, false, not, ◌||◌, List, Option, Some, None, arith}
-use Rattle.std.proofs.lemmas.Bool.{and_from, both_ways}
+use Rattle.std.proofs.lemmas.Bool.{and_from, both_ways, or_left as or_first, or_right as or_second, not-true as negated}
 use Rattle.std.proofs.lemmas.Int.{ints}
 use Rattle.std.proofs.lemmas.List.Sums.{AllPass-from_list_all, list_all-from_AllPass}
 use Rattle.std.specs.Bool.{Decides}
@@ -25,21 +25,9 @@ use Rattle.ic_grid.specs.Value.{shape_at}
 use Rattle.ic_grid.specs.declared.block.Array.{Array}
 use Rattle.ic_grid.specs.declared.block.Block.{Block}
 
-or_first : (a b : Bool) → a ≡ true → (a || b) ≡ true
-or_first true b e = refl
-or_first false b e = cc
-
-or_second : (a b : Bool) → b ≡ true → (a || b) ≡ true
-or_second true b e = refl
-or_second false b e = e
-
 of_second : (a b : Bool) → (a || b) ≡ true → a ≡ false → b ≡ true
 of_second true b e f = cc
 of_second false b e f = e
-
-negated : (b : Bool) → not b ≡ true → b ≡ false
-negated true e = cc
-negated false e = refl
 
 in_span : (first count n : ℤ) → first ≤ℤ n → n <ℤ (first +ℤ count) → is_in_span first count n ≡ true
 unfolding is_between

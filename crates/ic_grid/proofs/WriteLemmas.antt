@@ -28,7 +28,7 @@ some_kept (Some x) g = refl
 pub changed_there : {X : Type 0} (t : Place → Bool) (f : X → X) (m : Contents X) (q : Place) → is_some (finite.get (changed_where t f m) q) ≡ is_some (finite.get m q)
 changed_there t f m q = ap is_some (get-remade _ m q) ∙ some_kept (finite.get m q) (λ x. cond (t q) (f x) x)
 
-none_there : {X : Type 0} (o : Option X) → is_some o ≡ false → o ≡ None
+pub none_there : {X : Type 0} (o : Option X) → is_some o ≡ false → o ≡ None
 none_there None e = refl
 none_there (Some x) e = cc
 

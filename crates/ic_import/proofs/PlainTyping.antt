@@ -1,5 +1,6 @@
 -- Typing into a book without merged cells and arrays of several cells: no field is refused, and the book stays so.
-use Rattle.std.proofs.Common.{◌≡◌, ◌<◌, ℕ, List, [], ◌∷◌, ◌++◌, Bool, true, false, cond, not, ◌&&◌, Option, Some, None, Ok, slice_get, length, chars, refl, sym, ap, subst, ◌∙◌, arith}
+use Rattle.std.proofs.Common.{◌≡◌, ◌<◌, ℕ, List, [], ◌∷◌, ◌++◌, Bool, true, false, cond, not, Option, Some, None, Ok, slice_get, length, chars, refl, sym, ap, subst, ◌∙◌, arith}
+use Rattle.std.proofs.lemmas.Bool.{and_parts as both_true}
 use Rattle.ic_laws.proofs.core.Lists.{all_updated, length_updated}
 use Rattle.ic_laws.specs.CoreBook.{CellPlace}
 use Rattle.ic_laws.specs.Position.{is_column, is_row}
@@ -37,10 +38,6 @@ loose_typed b s place (kinds.Text text) style = refl
 first_sheet : (sheets : List Sheet) → 0 < length sheets → (s : Sheet) × (slice_get sheets 0 ≡ Some s)
 first_sheet [] h = absurd (omega arith)
 first_sheet (s ∷ sheets) h = (s, refl)
-
-both_true : (a b : Bool) → (a && b) ≡ true → (a ≡ true) × (b ≡ true)
-both_true true b h = (refl, h)
-both_true false b h = cc
 
 -- it isn't refused, and leaves such a book
 record Goes (at : CellPlace) (field : Field) (b : Book) : Type 0 where

@@ -1,6 +1,7 @@
 -- Reads of one record after another, and the records of all bytes.
 use Rattle.std.proofs.Common.{◌≡◌, ◌⊎◌, inl, inr, ◌<◌, ◌≤◌, ◌+◌, ◌++◌, ℕ, suc, zero, List, [], ◌∷◌, Bool, true, false, Option, Some, None, cond, length, refl, sym, ap, ◌∙◌, arith, add-one}
 use Rattle.std.specs.Prelude.{IsSome}
+use Rattle.std.proofs.lemmas.Bool.{cases_Bool as either}
 use Rattle.csv.specs.Machine.{Read, ends_at_end, field_after, fields_after, is_end, next_record, step}
 use Rattle.csv.specs.Reading.{NextIs, ReadRecord, ReadsNext, Ready, has_failed, is_bom, pending_of, reader_trim, records_from, records_next, source_of, strip_bom}
 use Rattle.csv.specs.declared.parser.Config.{Config}
@@ -100,10 +101,6 @@ takes_known config s (Some xs) (Some ys) found fields s2 some h = rw add-one (ta
 -- what is left of a reader that has read is what is pending
 source_pending : {R : Type 0} (bytes : R → Option (List ℕ)) (b : Reader R) → b.bom_checked ≡ true → source_of bytes b ≡ pending_of (bytes b.rdr) b
 source_pending bytes b checked = rw checked refl
-
-either : (b : Bool) → (b ≡ true) ⊎ (b ≡ false)
-either true = inl refl
-either false = inr refl
 
 -- a read takes the next record of a readable reader
 pub takes : {R : Type 0} (bytes : R → Option (List ℕ)) (a b : Reader R) (found : Bool) (fields : List (List ℕ)) → IsReadable bytes a

@@ -109,11 +109,11 @@ core_of-inserted index id name b =
     ap (with_sheets b)
     (insert-map core_sheet b.sheets index (empty_sheet id name) ∙ ap (λ (s : Sheet). insert (map core_sheet b.sheets) index s) (core_sheet-empty id name))
 
-put_back-map : {X Y : Type 0} (f : X → Y) (to : ℕ) (xs : List X) (o : Option X) → map f (put_back to xs o) ≡ put_back to (map f xs) (option_map f o)
+pub put_back-map : {X Y : Type 0} (f : X → Y) (to : ℕ) (xs : List X) (o : Option X) → map f (put_back to xs o) ≡ put_back to (map f xs) (option_map f o)
 put_back-map f to xs None = refl
 put_back-map f to xs (Some x) = insert-map f xs to x
 
-moved-map : {X Y : Type 0} (f : X → Y) (from to : ℕ) (xs : List X) → map f (moved from to xs) ≡ moved from to (map f xs)
+pub moved-map : {X Y : Type 0} (f : X → Y) (from to : ℕ) (xs : List X) → map f (moved from to xs) ≡ moved from to (map f xs)
 moved-map f from to xs =
     put_back-map f to (remove xs from) (slice_get xs from)
     ∙ ap₂ (λ ys o. put_back to ys o) (removed_seen f xs from) (sym (slice_get-map f xs from))

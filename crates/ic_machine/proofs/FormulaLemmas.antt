@@ -1,6 +1,5 @@
 -- A formula that is written: seen by the core, it is what the identity machine writes.
 use Rattle.std.proofs.Common.{◌≡◌, ℕ, zero, suc, ◌<◌, List, [], ◌∷◌, ◌++◌, length, Bool, true, false, cond, Option, Some, None, refl, sym, ap, subst, ◌∙◌, arith, T}
-use mathlib.Core.Bool.{true≢false}
 use Rattle.std.specs.BTreeMap.{insert_entry}
 use Rattle.std.specs.Cmp.{IsTotalOrder}
 use Rattle.std.specs.FinMap as finite
@@ -25,6 +24,7 @@ use Rattle.ic_machine.specs.Book.{Sheet, core_cells}
 use Rattle.ic_machine.specs.Content.{AnchorContent, BoolContent, Content, EmptyContent, ErrContent, FormulaContent, NumContent, SpillContent, TextContent, formula_in, formula_index, held}
 use Rattle.ic_machine.specs.Core.{HasPooled}
 use Rattle.ic_machine.specs.Placed.{index_in_pool, pool_with}
+pub use Rattle.ic_grid.proofs.ContentsLemmas.{equal as is_equal}
 
 -- Entries with some values taken out, and the others made into something else. ----
 
@@ -44,11 +44,6 @@ pub is_less : (r : Ordering) → T (is_lt r) → r ≡ Less
 is_less Less p = refl
 is_less Equal p = absurd p
 is_less Greater p = absurd p
-
-pub is_equal : (r : Ordering) → is_eq r ≡ true → r ≡ Equal
-is_equal Less p = absurd (true≢false (sym p))
-is_equal Equal p = refl
-is_equal Greater p = absurd (true≢false (sym p))
 
 module _ {K Y : Type 0} (R : K → K → Ordering) where
   pub find_below : (q : K) (es : List (K × Y)) → T (entries.below_all R q es) → finite.find R q es ≡ None

@@ -1,7 +1,7 @@
 -- The command that writes a formula: seen by the core, it is the identity machine's.
-use Rattle.std.proofs.Common.{◌≡◌, ℕ, zero, suc, ◌≤◌, List, [], ◌∷◌, map, length, Bool, true, false, cond, Option, Some, None, Ok, refl, sym, ap, subst, ◌∙◌, arith, inl, inr}
+use Rattle.std.proofs.Common.{◌≡◌, ℕ, zero, suc, List, [], ◌∷◌, map, length, Bool, true, false, cond, Option, Some, None, Ok, refl, sym, ap, ◌∙◌, inl, inr, le-ltb as past_end}
 use mathlib.Core.Bool.{true≢false}
-use Rattle.std.proofs.lemmas.Bool.{cases_Bool, eqb-true, lt-ltb, ltb-true, not-false}
+use Rattle.std.proofs.lemmas.Bool.{lt-ltb, not-false}
 use Rattle.std.proofs.lemmas.List.{length-map}
 use Rattle.std.proofs.lemmas.Option.{slice_get_cases}
 use Rattle.std.specs.List.{slice_get}
@@ -81,12 +81,6 @@ told_lacking : (lacks row column bad : Bool) (left : CoreBook) → lacks ≡ tru
 told_lacking true row column bad left e = refl
 told_lacking false row column bad left e = absurd (true≢false (sym e))
 
-past_end : (i n : ℕ) → n ≤ i → nat_lt i n ≡ false
-past_end i n le = elim (cases_Bool (nat_lt i n)) [
-  | inl t ↦ let lt = ltb-true i n t in absurd (omega (arith, le, lt))
-  | inr f ↦ f
-]
-
 lacks-mapped : (xs : List Sheet) (i : ℕ) → not (nat_lt i (length (map core_sheet xs))) ≡ is_none (slice_get xs i)
 lacks-mapped xs i = elim (slice_get_cases xs i).1 [
   | inl x ↦ ap (λ (n : ℕ). not (nat_lt i n)) (length-map xs core_sheet) ∙ ap not (lt-ltb i (length xs) x.1) ∙ sym (ap (λ (o : Option Sheet). is_none o) x.2)
@@ -159,13 +153,6 @@ none_if false x = refl
 some_if : {A : Type 0} (b : Bool) (x d : A) → b ≡ true → unwrap_or (cond b (Some x) None) d ≡ x
 some_if true x d e = refl
 some_if false x d e = absurd (true≢false (sym e))
-
--- a sign is no equals sign
-sign_begins : (c : ℕ) → is_sign c ≡ true → (c == equals) ≡ false
-sign_begins c s = elim (cases_Bool (c == equals)) [
-  | inl t ↦ let same : c ≡ equals = eqb-true c equals t in absurd (true≢false (sym (subst (λ (x : ℕ). is_sign x ≡ true) same s)))
-  | inr f ↦ f
-]
 
 -- the machine's command, where no sign begins its text
 pub formula_told : (b : Book) (index : ℕ) (place : CellPlace) (text : List ℕ) → TakesFormula b index place → begins_with_sign text ≡ false

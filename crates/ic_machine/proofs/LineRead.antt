@@ -207,7 +207,7 @@ pub record IsRead (english : List (List ℕ)) (line : List ℕ) (command : Comma
   pub says : all_said english row.words texts ≡ Some w
   pub is : row.command w ≡ command
 
-made_of : {A B : Type 0} (f : A → B) (o : Option A) (y : B) → option_map f o ≡ Some y → (x : A) × (o ≡ Some x) × (f x ≡ y)
+pub made_of : {A B : Type 0} (f : A → B) (o : Option A) (y : B) → option_map f o ≡ Some y → (x : A) × (o ≡ Some x) × (f x ≡ y)
 made_of f None y e = absurd (cc)
 made_of f (Some x) y e = (x, refl, cc)
 

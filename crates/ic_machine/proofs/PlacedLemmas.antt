@@ -7,6 +7,7 @@ use Rattle.ic_machine.specs.Placed.{FormulaIsPlaced, PlacedAlone}
 use Rattle.ic_pool.proofs.PlacedLemmas.{IsPlaced-found, IsPlaced-pushed, below_length, first_found, first_pushed}
 use Rattle.ic_pool.specs.Code.{code}
 use Rattle.ic_pool.specs.Pool.{IsFirstAt, IsPlaced, first_place}
+use Rattle.ic_machine.proofs.FormulaLemmas.{in_front as got_in_front}
 
 pub is_placed : FormulaIsPlaced
 is_placed formula pool = by_place (first_place (code formula) pool) refl
@@ -19,11 +20,6 @@ split_at : (m n : ℕ) → (m < n) ⊎ (n ≤ m)
 split_at m zero = inr (omega arith)
 split_at zero (suc n) = inl (omega arith)
 split_at (suc m) (suc n) = elim (split_at m n) [ inl lt ↦ inl (omega arith) | inr le ↦ inr (omega arith) ]
-
-got_in_front : {X : Type 0} (xs ys : List X) (at : ℕ) → at < length xs → slice_get (xs ++ ys) at ≡ slice_get xs at
-got_in_front [] ys at lt = absurd (omega arith)
-got_in_front (x ∷ xs) ys zero lt = refl
-got_in_front (x ∷ xs) ys (suc at) lt = got_in_front xs ys at (omega arith)
 
 pub placed_index : PlacedAlone
 placed_index formula at before after placed = at_first (first_place (code formula) before) refl

@@ -1,6 +1,6 @@
 -- Texts that begin with no blank, and end with none, too.
 use Rattle.std.proofs.Common.{◌≡◌, ℕ, ◌<◌, List, [], ◌∷◌, ◌++◌, Bool, true, false, not, cond, reverse, length, refl, sym, ap, subst, arith}
-use Rattle.std.proofs.lemmas.Bool.{true≢false}
+use Rattle.std.proofs.lemmas.Bool.{true≢false, not-true as not_both}
 use Rattle.std.proofs.lemmas.List.{length-reverse}
 use Rattle.ic_laws.specs.Character.{equals}
 use Rattle.ic_laws.specs.Scan.{first_is, is_blank}
@@ -20,10 +20,6 @@ tight_unless text first plain = record {
   first = first;
   last = solid_unless (reverse text) (subst (λ (n : ℕ). 0 < n) (sym (length-reverse text)) (some_solid text first)) plain;
 }
-
-not_both : (b : Bool) → not b ≡ true → b ≡ false
-not_both true h = absurd (true≢false (sym h))
-not_both false h = refl
 
 no_blank : (text : List ℕ) → first_is is_solid text ≡ true → first_is is_blank text ≡ false
 no_blank [] h = refl

@@ -82,7 +82,7 @@ has_force b valid =
     record { named = l.0; language = language.0; beside = beside.0; locale_is = l.1; language_is = language.1; beside_is = beside.1 }
 
 -- the word of each boolean and of each error value stands at its number
-boolean_at : (l : Language) (b : Bool) → slice_get (boolean_words l) (boolean_number b) ≡ Some (boolean_word l b)
+pub boolean_at : (l : Language) (b : Bool) → slice_get (boolean_words l) (boolean_number b) ≡ Some (boolean_word l b)
 boolean_at l true = refl
 boolean_at l false = refl
 

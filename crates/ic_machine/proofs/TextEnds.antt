@@ -1,7 +1,7 @@
 -- What is printed of a tree begins with no blank and no equals sign and ends with no blank, if no word of an error value ends
 -- with one.
 use Rattle.std.proofs.Common.{◌≡◌, ℕ, zero, suc, ◌+◌, ◌<◌, ◌^◌, ◌/◌, ◌%◌, pos, negsuc, List, [], ◌∷◌, ◌++◌, Bool, true, false, not, ◌==◌, cond, Option, Some, None, reverse, length, flat_map, option_map, refl, sym, ap, subst, ◌∙◌, arith, inl, inr, add-one}
-use Rattle.std.proofs.lemmas.Bool.{and_from, and_parts, cases_Bool, true≢false}
+use Rattle.std.proofs.lemmas.Bool.{and_from, and_parts, cases_Bool, true≢false, not-true as not_blank}
 use Rattle.std.proofs.lemmas.Bool.Decides.{eqb_tells, nat_tests}
 use Rattle.std.proofs.lemmas.Fmt.{digits_decimal, decimal_nonempty}
 use Rattle.std.proofs.lemmas.List.{append-nil, reverse-append, reverse-reverse}
@@ -46,10 +46,6 @@ is_solid c = not (is_blank c)
 pub record IsTight (text : List ℕ) : Type 0 where
   pub first : first_is is_solid text ≡ true
   pub last : first_is is_solid (reverse text) ≡ true
-
-not_blank : (b : Bool) → not b ≡ true → b ≡ false
-not_blank true h = absurd (cc)
-not_blank false h = refl
 
 past_solid : (text : List ℕ) → first_is is_solid text ≡ true → past_run is_blank text ≡ text
 past_solid [] h = refl

@@ -1,16 +1,13 @@
 -- What always holds of a book holds of it with another sheet in the place of one, and after the commands that leave
 -- contents, pools and names.
 use Rattle.std.proofs.Common.{◌≡◌, ℕ, ℤ, zero, suc, ◌<◌, ◌≤◌, List, [], ◌∷◌, map, length, Bool, true, false, cond, Option, Some, None, Ok, Err, refl, sym, ap, subst, ◌∙◌, arith, inl, inr}
-use mathlib.Core.Bool.{true≢false}
 use Rattle.std.proofs.lemmas.Bool.{cases_Bool}
 use Rattle.std.specs.Cmp.{int_cmp_total}
 use Rattle.std.specs.FinMap as finite
 use Rattle.std.specs.FinMap.{int_cmp-IsAntisymmetric}
 use Rattle.std.specs.List.{AllByRecursion, IsDistinct, slice_get}
-use Rattle.std.specs.Ordering.{eq_by_cmp, int_cmp, is_eq}
+use Rattle.std.specs.Ordering.{eq_by_cmp, int_cmp}
 use Rattle.std.specs.Prelude.{nat_eq, option_map}
-use Rattle.std.specs.declared.cmp.Ordering.{Ordering}
-use Rattle.std.specs.declared.cmp.Ordering.TheVariants.{Less, Equal, Greater}
 use Rattle.ic_laws.proofs.core.Lists.{length_updated}
 use Rattle.ic_laws.specs.CoreBook.{IsId}
 use Rattle.ic_laws.specs.CoreStep.{updated_at}
@@ -33,6 +30,7 @@ use Rattle.ic_machine.specs.Refusal.{InvalidSheet, Refusal}
 use Rattle.ic_machine.specs.Reply.{Field}
 use Rattle.ic_machine.specs.Valid.{HasAmounts, HasCellFormulas, HasGridStyles, HasLayout, HasLines, IsFrozen, IsKeptPool, IsStyleNumber, IsValidBook}
 use Rattle.ic_machine.proofs.SceneLemmas.{placed}
+use Rattle.ic_grid.proofs.ContentsLemmas.{equal as is_equal}
 
 -- one item in the place of another ----
 
@@ -51,7 +49,7 @@ pub all_of : {X : Type 0} (P Q : X → Type 0) → ((x : X) → P x → Q x) →
 all_of P Q more [] h = tt
 all_of P Q more (x ∷ xs) h = (more x h.0, all_of P Q more xs h.1)
 
-unseen_put : {X Y : Type 0} (g : X → Y) (i : ℕ) (xs : List X) (old new : X) → slice_get xs i ≡ Some old → g new ≡ g old → map g (updated_at (λ x. new) i xs) ≡ map g xs
+pub unseen_put : {X Y : Type 0} (g : X → Y) (i : ℕ) (xs : List X) (old new : X) → slice_get xs i ≡ Some old → g new ≡ g old → map g (updated_at (λ x. new) i xs) ≡ map g xs
 unseen_put g i [] old new e same = refl
 unseen_put g zero (x ∷ xs) old new e same = let is : x ≡ old = cc in ap (λ y. y ∷ map g xs) (same ∙ ap g (sym is))
 unseen_put g (suc i) (x ∷ xs) old new e same = ap (λ rest. g x ∷ rest) (unseen_put g i xs old new e same)
@@ -244,11 +242,6 @@ module _ (b : Book) (valid : IsValidBook b) where
       (λ s e. grid_put index s e (f s.grid) (h s.grid (lines_of (length b.styles) s.grid (holds_at b valid index s e).styles (holds_at b valid index s e).layout.lines)))
 
 -- rows and columns ----
-
-is_equal : (r : Ordering) → is_eq r ≡ true → r ≡ Equal
-is_equal Less p = absurd (true≢false (sym p))
-is_equal Equal p = refl
-is_equal Greater p = absurd (true≢false (sym p))
 
 -- what stands at a place of a map with one more
 put_at : {X : Type 0} (P : ℤ → X → Type 0) (m : finite.FinMap int_cmp X) (k : ℤ) (x : X) → P k x → ((q : ℤ) (y : X) → finite.get m q ≡ Some y → P q y)

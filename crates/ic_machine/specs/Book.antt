@@ -123,11 +123,6 @@ unless None left fields = Ok (left, fields)
 abbrev pub unless_refused : {A : Type 0} → Causes → A → List Field → Stepped A
 unless_refused causes left fields = unless (first_refusal causes) left fields
 
--- the same, where what is left and replied is a step itself
-abbrev pub unless_first : {A : Type 0} → Option Refusal → Stepped A → Stepped A
-unless_first (Some refusal) step = Err refusal
-unless_first None step = step
-
 -- a step on a part of a thing is one on the thing
 abbrev pub put_in : {A B : Type 0} → (A → B) → Stepped A → Stepped B
 put_in put (Err refusal) = Err refusal

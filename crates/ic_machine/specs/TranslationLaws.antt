@@ -12,7 +12,7 @@ use Rattle.ic_machine.specs.Reply.{Field}
 use Rattle.ic_machine.specs.Run.{after}
 use Rattle.ic_machine.specs.Same.{IsSameBook}
 use Rattle.ic_machine.specs.Step.{line_step, machine, step}
-use Rattle.ic_machine.specs.Translation.{AreTranslated, IsKeptLine, IsTypedSo, array_formula, body_text, cell_text, defined, first_hindered, in_notation, is_dropped, kept_in, left_after, own_formula, why_line_not, why_not, written_formula}
+use Rattle.ic_machine.specs.Translation.{AreTranslated, IsTypedSo, array_formula, body_text, cell_text, defined, first_hindered, in_notation, is_dropped, kept_in, left_after, own_formula, why_not, written_formula}
 use Rattle.ic_machine.specs.Valid.{IsValidBook}
 use Rattle.ic_machine.specs.subjects.Arrays as arrays
 use Rattle.ic_machine.specs.subjects.Definitions as definitions
@@ -114,13 +114,6 @@ module _ (locale language : List ℕ) where
   OthersAreSame =
       (book left other : Book) (fields : List Field) (command : Command) → IsBeside locale language book other → looks_at_notation command ≡ false
       → step book command ≡ Ok (left, fields) → LeavesSame left (step other command)
-
-  -- what a line becomes is a command that leaves the same
-  abbrev pub LineIsSame : Type 0
-  LineIsSame =
-      (book left other : Book) (command : Command) (line new : List ℕ) → IsBeside locale language book other → kept_in book line ≡ Some (command, left)
-      → BodyEndsPlain book (in_notation locale language left) command → why_line_not locale language book line ≡ None → IsKeptLine locale language book line (command, left) new
-      → (fields : List Field) × ((line_step commands other new).1 ≡ Ok fields) × IsSameBook left (line_step commands other new).0
 
   -- that holds of what a line is kept as, and of each line of a list that is kept
   abbrev pub KeptEndsPlain : Book → Option (Command × Book) → Type 0

@@ -1,5 +1,5 @@
 -- A row in which no cell stands and that has no style shows what the row behind the sheet shows.
-use Rattle.std.proofs.Common.{◌≡◌, ◌≤◌, ◌+◌, ◌++◌, [], ◌∙◌, ◌&&◌, ℕ, ℤ, pos, zero, suc, arith, subst, of_z, w32, nat_eq, List, Bool, true, false, not, Option, Some, None, codes, is_some, option_map, refl, sym, ap, ap₂}
+use Rattle.std.proofs.Common.{◌≡◌, ◌≤◌, ◌+◌, ◌++◌, [], ◌∙◌, ◌&&◌, ℕ, ℤ, pos, zero, suc, arith, subst, of_z, w32, nat_eq, List, Bool, true, false, not, Option, Some, None, codes, option_map, refl, sym, ap, ap₂}
 use Rattle.std.specs.Prelude.{◌≤ℤ◌, flat_map, option_and_then}
 use Rattle.std.specs.Bool.{IsTrue}
 use Rattle.std.specs.FinMap as finite
@@ -29,6 +29,7 @@ use Rattle.ic_parts.specs.Markup.{IsBlankRow, place_shown, row_behind, row_shown
 use Rattle.ic_parts.specs.Shown.{StandsIn}
 use Rattle.ic_parts.specs.Whole.{whole_of, whole_sheet}
 use Rattle.ic_parts.proofs.GridLemmas.{its_grid}
+pub use Rattle.ic_grid.proofs.WriteLemmas.{none_there as none_when}
 
 -- what is joined of equal texts is equal ----
 
@@ -40,10 +41,6 @@ module _ (f g : ℕ → List ℕ) (sep : List ℕ) (same : (k : ℕ) → 1 ≤ k
   joined_same : (n : ℕ) → join_by f sep (range_with_len 1 n) ≡ join_by g sep (range_with_len 1 n)
   joined_same zero = refl
   joined_same (suc n) = ap₂ (λ (x rest : List ℕ). x ++ rest) (same 1 (omega arith)) (each_same 2 n (omega arith))
-
-pub none_when : {X : Type 0} (o : Option X) → is_some o ≡ false → o ≡ None
-none_when None e = refl
-none_when (Some x) e = cc
 
 -- where nothing stands in a row ----
 

@@ -1,14 +1,12 @@
 -- The whole book over a change of its sheets or its definitions: its core is changed as the machine's is.
-use Rattle.std.proofs.Common.{◌≡◌, ℕ, ◌+◌, List, [], ◌∷◌, ◌++◌, map, flat_map, Option, Some, None, refl, sym, ap, ap₂, ◌∙◌}
-use Rattle.std.specs.Prelude.{insert, remove, option_map}
-use Rattle.std.specs.List.{slice_get}
+use Rattle.std.proofs.Common.{◌≡◌, ℕ, ◌+◌, List, [], ◌∷◌, ◌++◌, map, flat_map, Some, refl, sym, ap, ap₂, ◌∙◌}
+use Rattle.std.specs.Prelude.{insert}
 use Rattle.std.specs.Option.{option_to_list}
 use Rattle.std.proofs.lemmas.List.{map-append}
-use Rattle.std.proofs.lemmas.Option.{slice_get-map}
 use Rattle.ic_laws.proofs.core.KeptBook.{in_body}
 use Rattle.ic_laws.proofs.core.Lists.{removed_seen, updated_seen}
 use Rattle.ic_laws.specs.CoreBook.{CellPlace, CoreBook, Definition, Sheet as CoreSheet, greatest_id, scene_of}
-use Rattle.ic_laws.specs.CoreStep.{changed_by, moved, put_back, with_definition, with_new_sheet, with_sheet_name, without_definition, without_sheet}
+use Rattle.ic_laws.specs.CoreStep.{changed_by, with_definition, with_new_sheet, with_sheet_name, without_definition, without_sheet}
 use Rattle.ic_laws.specs.Greatest.{greatest}
 use Rattle.ic_laws.specs.Keeping.{kept_in_body, same_keys, with_kept}
 use Rattle.ic_laws.specs.Notations.{Notations}
@@ -19,8 +17,9 @@ use Rattle.ic_machine.proofs.CoreLemmas.{insert-map}
 use Rattle.ic_machine.specs.Binds.{with_sheet_among}
 use Rattle.ic_sheets.specs.Sheet.{Sheet, cells_of, empty_grid, kept_pool, plain_tab, sheet_core}
 use Rattle.ic_parts.specs.Book.{Book, core_of, scene_in}
-use Rattle.ic_parts.specs.Change.{with_added_definition, with_added_sheet, with_inserted_sheet, with_kept_pools, with_moved_sheet, with_removed_definition, with_removed_sheet, with_renamed_sheet}
+use Rattle.ic_parts.specs.Change.{with_added_definition, with_added_sheet, with_inserted_sheet, with_kept_pools, with_removed_definition, with_removed_sheet, with_renamed_sheet}
 use Rattle.ic_sheets.proofs.PoolLemmas.{sheet_cores-kept}
+pub use Rattle.ic_machine.proofs.CoreLemmas.{moved-map, core_of-moved}
 
 -- a change of the sheets or the definitions of a book, over which all formulas are kept as these notations say
 abbrev pub changed_in : Notations → (Book → Book) → Book → Book
@@ -91,18 +90,6 @@ core_of-changed n change of_core is book =
     ∙ ap (λ (core : CoreBook). of_core (with_kept n (scene_in book) (scene_of core) same_keys (core_of book))) (is book)
 
 -- a moved sheet ----
-
-put_back-map : {X Y : Type 0} (f : X → Y) (to : ℕ) (xs : List X) (o : Option X) → map f (put_back to xs o) ≡ put_back to (map f xs) (option_map f o)
-put_back-map f to xs None = refl
-put_back-map f to xs (Some x) = insert-map f xs to x
-
-pub moved-map : {X Y : Type 0} (f : X → Y) (from to : ℕ) (xs : List X) → map f (moved from to xs) ≡ moved from to (map f xs)
-moved-map f from to xs =
-    put_back-map f to (remove xs from) (slice_get xs from)
-    ∙ ap₂ (λ ys o. put_back to ys o) (removed_seen f xs from) (sym (slice_get-map f xs from))
-
-pub core_of-moved : (from to : ℕ) (book : Book) → core_of (with_moved_sheet from to book) ≡ record (core_of book) { sheets = moved from to (core_of book).sheets }
-core_of-moved from to book = ap (with_sheets book) (moved-map sheet_core from to book.sheets)
 
 -- what formulas can mention after a change of the machine's book is what they can after that of the book
 pub same_scene_after : (change : Book → Book) (of_core : CoreBook → CoreBook) → IsBookChange change of_core → (book : Book) → scene_of (of_core (core_of book)) ≡ scene_in (change book)

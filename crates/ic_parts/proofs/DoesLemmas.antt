@@ -1,5 +1,5 @@
 -- What the calls of a model do is the step of their command.
-use Rattle.std.proofs.Common.{◌≡◌, ℕ, ℤ, List, [], ◌∷◌, ◌++◌, Bool, true, false, map, not, option_map, Option, Some, None, Result, Ok, Err, is_some, refl, sym, ap, ap₂, subst, ◌∙◌, inl, inr, IfOk, OnOk, OnErr}
+use Rattle.std.proofs.Common.{◌≡◌, ℕ, ℤ, List, [], ◌∷◌, ◌++◌, true, false, map, not, option_map, Option, Some, None, Result, Ok, Err, is_some, refl, sym, ap, ap₂, subst, ◌∙◌, inl, inr, IfOk, OnOk, OnErr}
 use Rattle.std.specs.Prelude.{flat_map, is_none, option_to_list, unwrap_or, String, chars, string_bytes}
 use Rattle.std.proofs.lemmas.Grind.{flat_map-append}
 use Rattle.std.proofs.lemmas.List.{map-append}
@@ -7,6 +7,7 @@ use Rattle.std.proofs.lemmas.List.Folds.{flat_map-map}
 use Rattle.ic_laws.proofs.keeping.Accepted.{none_holds}
 use Rattle.std.specs.Global.{Vec}
 use Rattle.std.specs.declared.alloc.Global.{Global}
+use Rattle.std.proofs.lemmas.Bool.{not-false as not_false}
 use Rattle.ic_laws.specs.Character.{equals}
 use Rattle.ic_laws.specs.Command as commands
 use Rattle.ic_laws.specs.CoreBook.{CoreBook, Definition, fresh_id}
@@ -129,9 +130,6 @@ same_book (Err error) old new same = ap (λ (m : ModelState). m.book) same
 
 -- a call that leaves a changed book, and answers no fields
 module _ (result : Result (Unit {0}) BookError) (old new : ModelState) (becomes : Book) (is : OnOk result (new.book ≡ becomes)) where
-  abbrev LeavesNow : machine.Book → Type 0
-  LeavesNow left = IfOk result (Leaves None (core_of old.book) [] left no_fields old new)
-
   leaves_now : (r : Result (Unit {0}) BookError) → OnOk r (new.book ≡ becomes) → (left : machine.Book) → whole_of becomes ≡ left → IfOk r (Leaves None (core_of old.book) [] left no_fields old new)
   leaves_now (Ok value) is left e = (ap whole_of is ∙ e, refl)
   leaves_now (Err error) is left e = tt
@@ -150,10 +148,6 @@ none_refused_or late (Ok value) refusal P e f = f e
 none_refused_or late (Err error) refusal P e f = tt
 
 -- A call on a valid book that leaves what a change makes of it. ----
-
-not_false : (b : Bool) → not b ≡ false → b ≡ true
-not_false true e = refl
-not_false false e = cc
 
 module _ (result : Result (Unit {0}) BookError) (old new : ModelState) (valid : IsValidBook old.book) (same : OnErr result (new ≡ old)) where
   abbrev n : Notations

@@ -1,5 +1,5 @@
 -- What the calls do that write a formula or a value of one cell out for another.
-use Rattle.std.proofs.Common.{◌≡◌, ◌++◌, ◌≤◌, ℕ, zero, suc, ℤ, List, [], ◌∷◌, Bool, true, false, not, nat_lt, length, Option, Some, None, Result, Ok, Err, IsErr, IsErrAnd, option_map, chars, string_bytes, String, if◌then◌else◌, refl, sym, ap, ap₂, subst, ◌∙◌, inl, inr, rules, arith}
+use Rattle.std.proofs.Common.{◌≡◌, ◌++◌, ℕ, zero, suc, ℤ, List, [], ◌∷◌, Bool, true, false, not, nat_lt, length, Option, Some, None, Result, Ok, Err, IsErr, IsErrAnd, option_map, chars, string_bytes, String, if◌then◌else◌, refl, sym, ap, ap₂, subst, ◌∙◌, inl, inr, rules, arith, le-ltb as no_less}
 use Rattle.std.specs.Prelude.{is_none, option_and_then}
 use Rattle.std.specs.FinMap as finite
 use Rattle.std.specs.List.{slice_get}
@@ -55,9 +55,6 @@ use Rattle.ic_parts.proofs.WholeWritten.{in_force_there}
 use Rattle.ic_parts.proofs.WrittenLemmas.{one_of_all}
 
 -- whether a sheet stands at an index ----
-
-no_less : (m k : ℕ) → k ≤ m → nat_lt m k ≡ false
-no_less m k le = search (rules, arith)
 
 first_less : (k : ℕ) → nat_lt zero (suc k) ≡ true
 first_less k = search (rules, arith)

@@ -1,7 +1,8 @@
 -- The grid of a sheet: what a write leaves of each cell, that it is a grid where its whole sheet is valid, and the style that
 -- is written.
 use Rattle.std.proofs.Common.{◌≡◌, ℕ, ◌<◌, List, [], ◌∷◌, Bool, true, false, cond, not, length, take, Option, Some, None, Result, Ok, Err, IsErr, IsErrAnd, refl, if◌then◌else◌, sym, ap, ap₂, subst, ◌∙◌}
-use Rattle.std.proofs.lemmas.Bool.{and_from}
+use mathlib.Core.Bool.{and-false as no_and}
+use Rattle.std.proofs.lemmas.Bool.{and_from, or_parts as no_or}
 use Rattle.std.proofs.lemmas.Option.{slice_get-map, slice_get_within}
 use Rattle.std.specs.FinMap as finite
 use Rattle.std.specs.List.{slice_get}
@@ -10,10 +11,10 @@ use Rattle.ic_laws.proofs.core.CellWritten.{place_cmp_total}
 use Rattle.ic_laws.specs.CoreBook.{CellPlace}
 use Rattle.ic_laws.specs.Position.{is_column, is_row}
 use Rattle.std.proofs.lemmas.Slice.Eq.{bytes_eq-Decides}
+pub use Rattle.std.proofs.Math.Seq.{take-length as take_all}
 use Rattle.ic_cells.specs.Style.{default_style, first_place, is_color, is_flag, is_style, style_at, with_format, with_quote_prefix}
 use Rattle.ic_cells.specs.declared.cell.Cell.{Cell}
 use Rattle.ic_cells.specs.declared.cell.Cell.TheVariants as cells
-use Rattle.ic_cells.specs.declared.style.Color.{Color}
 use Rattle.ic_cells.specs.declared.style.Color.TheVariants as colors
 use Rattle.ic_cells.specs.declared.style.Style.{Style}
 use Rattle.ic_cells.specs.Cell.{style_of}
@@ -50,6 +51,7 @@ use Rattle.ic_parts.specs.Refused.{TellsOnly, of_grid, refusal_of}
 use Rattle.ic_parts.specs.Values.{keeps_code, value_causes}
 use Rattle.ic_parts.specs.Written.{cell_causes}
 use Rattle.ic_parts.specs.declared.error.BookError.{BookError}
+use Rattle.ic_cells.proofs.StyleLemmas.{flag_again as flag_itself, color_again as color_itself, style_again as style_itself}
 
 -- What holds of each cell, and of an empty one, and of a formula's that is reset, holds after a write. ----
 
@@ -105,11 +107,6 @@ strings_with count place cell is grid h = written_so (HasString count) (λ s. tt
 
 pub strings_written : (count : ℕ) (place : CellPlace) (kind : FormulaKind) (at style : ℕ) (grid : Grid) → HasStrings count grid → HasStrings count (with_cell_in place (formula_cell kind at style) grid)
 strings_written count place kind at style = strings_with count place (formula_cell kind at style) (formula_string count kind at style)
-
--- nothing holds beside what doesn't
-no_and : (b : Bool) → (b && false) ≡ false
-no_and true = refl
-no_and false = refl
 
 -- A sheet of a valid book. ----
 
@@ -188,14 +185,6 @@ value_told grid place row column = ap₂ (λ (row column : Bool). first_refusal 
 abbrev restyled_by : (Style → Style) → Bool → List Style → ℕ → Numbered
 restyled_by change same styles number = if same then record { number = number; styles = styles } else numbered (change (style_at styles number)) styles
 
-flag_itself : (b : Bool) → is_flag b b ≡ true
-flag_itself true = refl
-flag_itself false = refl
-
-color_itself : (c : Color) → is_color c c ≡ true
-color_itself colors.None = refl
-color_itself (colors.Rgb t) = (bytes_eq-Decides t t).1 refl
-
 is_same : (quoted : Bool) (s : Style) → s.quote_prefix ≡ quoted → is_style (with_quote_prefix quoted s) s ≡ true
 unfolding is_style
 is_same quoted s e =
@@ -219,7 +208,6 @@ quote_new quoted styles number e = ap (λ b. restyled_by (with_quote_prefix quot
 
 -- where nothing changes, and where a code and the flag do ----
 
-style_itself : (s : Style) → is_style s s ≡ true
 unfolding is_style
 style_itself s = and_from _ _ (and_from _ _ (and_from _ _ ((bytes_eq-Decides s.num_fmt s.num_fmt).1 refl) (flag_itself s.quote_prefix)) (flag_itself s.bold)) (color_itself s.fill)
 
@@ -244,10 +232,6 @@ dated : (date : Bool) (code : List ℕ) (s : Style) → date ≡ false → (if d
 dated true code s e = cc
 dated false code s e = refl
 
-no_or : (a b : Bool) → (a || b) ≡ false → (a ≡ false) × (b ≡ false)
-no_or true b e = cc
-no_or false b e = (refl, e)
-
 pub code_new : (code : List ℕ) (styles : List Style) (number : ℕ) → keeps_code code (style_at styles number) ≡ false
     → restyled (λ s. unquoted (coded (Some code) s)) number styles ≡ numbered (unquoted (with_format code (style_at styles number))) styles
 code_new code styles number e =
@@ -266,11 +250,6 @@ code_kept code styles number e =
     let s : Style = style_at styles number in
     ap (λ (t : Style). if is_style (unquoted t) s then record { number = number; styles = styles } else numbered (unquoted t) styles)
     (keeps_it (bytes_eq s.num_fmt code) (is_date_code code && is_date_code s.num_fmt) code s refl e)
-
--- and taken back
-pub take_all : {X : Type 0} (xs : List X) → take (length xs) xs ≡ xs
-take_all [] = refl
-take_all (x ∷ xs) = ap (λ rest. x ∷ rest) (take_all xs)
 
 pub take_front : {X : Type 0} (xs ys : List X) → take (length xs) (xs ++ ys) ≡ xs
 take_front [] [] = refl

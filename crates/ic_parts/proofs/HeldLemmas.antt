@@ -1,5 +1,5 @@
 -- The sheets of a book as the core sees them, and what refuses a change of them.
-use Rattle.std.proofs.Common.{◌≡◌, ◌≢◌, ◌==◌, ℕ, zero, suc, ◌+◌, ◌<◌, ◌≤◌, ◌^◌, IfSome, SomeIff, Result, Ok, Err, IsErr, IsErrAnd, rules, arith, List, [], ◌∷◌, ◌++◌, Bool, true, false, not, Option, Some, None, option_map, map, length, get_or, is_some, refl, sym, ap, subst, ◌∙◌, nat_lt, if◌then◌else◌}
+use Rattle.std.proofs.Common.{◌≡◌, ◌≢◌, ◌==◌, ℕ, zero, suc, ◌+◌, ◌<◌, ◌≤◌, ◌^◌, IfSome, SomeIff, Result, Ok, Err, IsErr, IsErrAnd, rules, arith, List, [], ◌∷◌, ◌++◌, Bool, true, false, not, Option, Some, None, option_map, map, length, get_or, is_some, refl, sym, ap, subst, ◌∙◌, nat_lt, if◌then◌else◌, le-ltb as no_less, lt-ltb as is_less}
 use Rattle.std.specs.Prelude.{max, position, nat_eq}
 use Rattle.std.specs.List.{slice_get}
 use Rattle.std.proofs.lemmas.Option.{slice_get_read}
@@ -76,12 +76,6 @@ fresh_is false g id e = cc
 
 pub within_core : (ws : List HeldSheet) (index : ℕ) → index < length ws → index < length (map sheet_core (map sheet_of ws))
 within_core ws index lt = subst (λ k. index < k) (seen_length ws) lt
-
-is_less : (m k : ℕ) → m < k → nat_lt m k ≡ true
-is_less m k lt = search (rules, arith)
-
-no_less : (m k : ℕ) → k ≤ m → nat_lt m k ≡ false
-no_less m k le = search (rules, arith)
 
 pub there_is : (ws : List HeldSheet) (index : ℕ) → index < length ws → not (nat_lt index (length (map sheet_core (map sheet_of ws)))) ≡ false
 there_is ws index lt = ap not (is_less index _ (within_core ws index lt))

@@ -1,5 +1,5 @@
 -- The formulas of a sheet's cells, as a book lends them.
-use Rattle.std.proofs.Common.{◌≡◌, ◌++◌, ◌∷◌, [], ◌∙◌, ℕ, ◌<◌, List, Option, Some, None, ap, ap₂, get_or, length, option_and_then, option_map, refl, slice_get, sym, unwrap_or}
+use Rattle.std.proofs.Common.{◌≡◌, ◌++◌, ◌∷◌, [], ◌∙◌, ℕ, List, Option, Some, None, ap, ap₂, get_or, length, option_and_then, option_map, refl, slice_get, sym, unwrap_or}
 use Rattle.std.proofs.lemmas.Option.{slice_get-get_or}
 use Rattle.std.specs.BTreeMap as tree
 use Rattle.std.specs.BTreeMap.{BTreeMap}
@@ -20,10 +20,7 @@ use Rattle.ic_sheets.proofs.PoolLemmas.{IsBelow}
 use Rattle.ic_sheets.specs.Sheet.{HasIndexes, cells_of, formula_in}
 use Rattle.ic_parts.proofs.CellReads.{same_entries}
 use Rattle.ic_parts.specs.Lent.{kept_in}
-
-below : (count : ℕ) (o : Option ℕ) → ((at : ℕ) → o ≡ Some at → at < count) → IsBelow count o
-below count None h = tt
-below count (Some at) h = h at refl
+use Rattle.ic_parts.proofs.WrittenLemmas.{below}
 
 module _ (pool : List Formula) where
   all_below : (grid : Grid) → HasIndexes (length pool) grid → AllByRecursion (λ (e : CellPlace × Cell). IsBelow (length pool) (cell_formula_index e.1)) (finite.entries grid.cells)

@@ -1,8 +1,8 @@
 -- A sheet as a table.
-use Rattle.std.proofs.Common.{◌≡◌, ◌∷◌, ◌++◌, ◌+◌, ◌-◌, ◌≤◌, ℕ, ℤ, pos, negsuc, nat_abs, zero, suc, arith, to_z, w32, append-nil, append_assoc, codes, List, [], Bool, true, false, ◌&&◌, ◌||◌, map, Option, Some, None, is_some, option_map, refl, sym, ap, ap₂, subst, ◌∙◌}
+use Rattle.std.proofs.Common.{◌≡◌, ◌∷◌, ◌++◌, ◌+◌, ◌-◌, ◌≤◌, ℕ, ℤ, pos, negsuc, nat_abs, zero, suc, arith, to_z, w32, append-nil, append_assoc, codes, List, [], Bool, true, false, ◌&&◌, ◌||◌, map, Option, Some, None, option_map, refl, sym, ap, ap₂, subst, ◌∙◌}
 use Rattle.std.specs.Prelude.{flat_map, int_le, max, option_and_then, unwrap_or}
 use Rattle.std.specs.List.{join_by, list_any, range_with_len, slice_get}
-use Rattle.std.proofs.lemmas.Bool.{and_parts}
+use Rattle.std.proofs.lemmas.Bool.{and_parts, or_right}
 use Rattle.std.proofs.lemmas.Bool.Decides.{nat_tests}
 use Rattle.std.proofs.lemmas.Grind.{flat_map-append}
 use Rattle.std.proofs.lemmas.Int.{ints, to_z_pos}
@@ -33,6 +33,7 @@ use Rattle.ic_parts.specs.Markup.{last_of, plain_shown, row_behind, row_shown, s
 use Rattle.ic_parts.specs.Shown.{StandsIn}
 use Rattle.ic_parts.specs.Whole.{whole_of, whole_sheet}
 use Rattle.ic_parts.proofs.WholeLemmas.{whole_core}
+use Rattle.ic_grid.proofs.WriteLemmas.{some_there}
 
 module _ (now : ModelState) (valid : IsValidBook now.book) (s : Sheet) (stands : StandsIn s now.book) (place : CellPlace) where
   abbrev whole : machine.Book
@@ -81,7 +82,7 @@ markup_told book sheet = text_field (sheet_markup book sheet)
 
 -- what is joined, one after another ----
 
-range_more : (a n : ℕ) → range_with_len a (suc n) ≡ range_with_len a n ++ (a + n) ∷ []
+pub range_more : (a n : ℕ) → range_with_len a (suc n) ≡ range_with_len a n ++ (a + n) ∷ []
 range_more a zero = ap (λ k. k ∷ []) (let same : a ≡ a + 0 = omega arith in same)
 range_more a (suc n) = ap (λ xs. a ∷ xs) (range_more (a + 1) n ∙ ap (λ k. range_with_len (a + 1) n ++ k ∷ []) (let same : a + 1 + n ≡ a + suc n = omega arith in same))
 
@@ -131,10 +132,6 @@ is_marked true h shown before first second third a b c =
 
 -- the last row and column lie in a sheet ----
 
-or_right : (a b : Bool) → b ≡ true → (a || b) ≡ true
-or_right true b e = refl
-or_right false b e = e
-
 module _ (size : CellPlace → ℕ) (most : ℕ) where
   pub greatest_kept : (ks : List CellPlace) → ((k : CellPlace) → list_any (same_place k) ks ≡ true → size k ≤ most) → greatest (map size ks) ≤ most
   greatest_kept [] h = omega arith
@@ -157,10 +154,6 @@ row_small n h = to_z_pos w32 n (omega (arith, h))
 
 pub column_small : (n : ℕ) → n ≤ column_count → to_z w32 n ≡ pos n
 column_small n h = to_z_pos w32 n (omega (arith, h))
-
-some_there : {X : Type 0} (o : Option X) → is_some o ≡ true → (x : X) × (o ≡ Some x)
-some_there None e = cc
-some_there (Some x) e = (x, refl)
 
 module _ (s : Sheet) (grid : IsGrid s.grid) where
   inside : (k : CellPlace) → list_any (same_place k) (finite.keys s.grid.cells) ≡ true → (is_row k.0 && is_column k.1) ≡ true

@@ -16,7 +16,7 @@ use Rattle.ic_laws.specs.Notations.{AreNotations, Notations, english}
 use Rattle.ic_laws.specs.Dialect.{DialectMeaning}
 use Rattle.ic_laws.specs.Position.{is_place_within}
 use Rattle.ic_laws.specs.declared.reference.RefToken.{RefToken}
-use Rattle.ic_laws.specs.Refusal.{InvalidName, InvalidNameFormula, InvalidScope, InvalidSheet, NameExists, NameNotFound}
+use Rattle.ic_laws.specs.Refusal.{InvalidNameFormula, InvalidScope, InvalidSheet, NameExists, NameNotFound}
 use Rattle.ic_definitions.proofs.NamesFacts.{position_none, some_position}
 use Rattle.ic_sheets.specs.Sheet.{sheet_core, sheet_of}
 use Rattle.ic_sheets.specs.declared.sheet.Sheet.{Sheet as HeldSheet}
@@ -51,9 +51,6 @@ scope_is core index id e = ap (λ o. unwrap_or o None) e
 -- ---- what refuses a new definition
 
 module _ (n : Notations) (core : CoreBook) (name : List ℕ) (index : Option ℕ) (text : List ℕ) where
-  pub no_identifier : is_identifier name ≡ false → new_definition_refusal n core name index text ≡ Some InvalidName
-  no_identifier bad = rw bad refl
-
   pub no_scope : is_identifier name ≡ true → scope_of core index ≡ None → new_definition_refusal n core name index text ≡ Some InvalidScope
   no_scope good none = rw good (rw none refl)
 

@@ -1,16 +1,13 @@
 -- What a notation of the tables makes of values and texts, whichever is in force.
-use Rattle.std.proofs.Common.{◌≡◌, ℕ, ℤ, List, [], Bool, true, false, codes, Option, Some, None, refl, ap, ap₂, ◌∙◌}
+use Rattle.std.proofs.Common.{◌≡◌, ℕ, ℤ, List, [], Bool, true, codes, Option, Some, None, refl, ap, ap₂, ◌∙◌}
 use Rattle.std.proofs.lemmas.Bool.Decides.{Decides-int_eq}
-use Rattle.std.specs.List.{slice_get}
 use Rattle.ic_laws.specs.Amount.{amount_text, is_amount}
-use Rattle.ic_laws.specs.Dialect.{boolean_number, error_number}
 use Rattle.ic_laws.specs.Notations.{english}
 use Rattle.ic_laws.specs.declared.tree.Error.{Error}
 use Rattle.ic_laws.specs.declared.tree.Error.TheVariants as errors
 use Rattle.ic_tables.proofs.WellFormed.{formats_of_named}
 use Rattle.ic_tables.specs.Formats.{decimal_separator}
 use Rattle.ic_tables.specs.Tables.{IsWellFormed, language_of, locale_of}
-use Rattle.ic_tables.specs.Words.{boolean_words, error_words}
 use Rattle.ic_tables.specs.declared.language.Language.{Language}
 use Rattle.ic_tables.specs.declared.locale.NamedLocale.{NamedLocale}
 use Rattle.ic_cells.specs.Cell.{value_of}
@@ -27,25 +24,7 @@ use Rattle.ic_machine.specs.Book as machine
 use Rattle.ic_machine.specs.InForce.{InForce, all_there, by_notation, in_force, is_number, typed_in}
 use Rattle.ic_parts.specs.Book.{NotationState}
 use Rattle.ic_parts.specs.Translated.{IsIn, localized_in}
-
--- the word of each boolean and of each error value stands at its number
-boolean_at : (l : Language) (b : Bool) → slice_get (boolean_words l) (boolean_number b) ≡ Some (boolean_word l b)
-boolean_at l true = refl
-boolean_at l false = refl
-
-error_at : (l : Language) (e : Error) → slice_get (error_words l) (error_number e) ≡ Some (error_word l e)
-error_at l errors.REF = refl
-error_at l errors.NAME = refl
-error_at l errors.VALUE = refl
-error_at l errors.DIV = refl
-error_at l errors.NA = refl
-error_at l errors.NUM = refl
-error_at l errors.NIMPL = refl
-error_at l errors.SPILL = refl
-error_at l errors.CALC = refl
-error_at l errors.CIRC = refl
-error_at l errors.ERROR = refl
-error_at l errors.NULL = refl
+use Rattle.ic_machine.proofs.RetypedLemmas.{boolean_at, error_at}
 
 same_number : (v : ℤ) (t : Typed) → t ≡ kinds.Number v None → is_number v t ≡ true
 same_number v t e = ap (is_number v) e ∙ (Decides-int_eq v v).1 refl

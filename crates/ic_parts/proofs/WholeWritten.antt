@@ -1,5 +1,5 @@
 -- A formula that is written into a cell, as the whole machine writes it.
-use Rattle.std.proofs.Common.{◌≡◌, ℕ, pos, List, [], ◌∷◌, ◌++◌, Bool, true, false, not, length, Option, Some, None, is_some, option_map, Result, Ok, Err, refl, sym, ap, ap₂, subst, ◌∙◌, if◌then◌else◌, codes, IfSome, OnOk, OnErr}
+use Rattle.std.proofs.Common.{◌≡◌, ℕ, pos, List, [], ◌∷◌, ◌++◌, Bool, true, false, not, length, Option, Some, None, option_map, Result, Ok, Err, refl, sym, ap, ap₂, subst, ◌∙◌, if◌then◌else◌, codes, IfSome, OnOk, OnErr}
 use Rattle.std.specs.List.{slice_get}
 use Rattle.std.proofs.lemmas.Option.{slice_get-map}
 use Rattle.ic_laws.proofs.core.Lists.{all_updated}
@@ -46,12 +46,9 @@ use Rattle.ic_parts.specs.declared.error.BookError.{BookError}
 use Rattle.ic_parts.proofs.GridLemmas.{strings_written}
 use Rattle.ic_parts.proofs.WholeLemmas.{whole_core}
 use Rattle.ic_parts.proofs.WrittenLemmas.{updated_alike}
+use Rattle.ic_grid.proofs.WriteLemmas.{some_there as there}
 
 -- the notation in force of a valid book ----
-
-there : {X : Type 0} (o : Option X) → is_some o ≡ true → (x : X) × (o ≡ Some x)
-there None h = cc
-there (Some x) h = (x, refl)
 
 -- English is there
 pub english_there : (book : Book) → IsValidBook book → (l : Language) × (language_of book.tables english ≡ Some l)

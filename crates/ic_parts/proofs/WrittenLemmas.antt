@@ -30,7 +30,7 @@ updated_alike {X} g f h zero (y ∷ xs) x at e = let same : x ≡ y = cc in ap (
 updated_alike g f h (suc i) (y ∷ xs) x at e = ap (λ rest. g y ∷ rest) (updated_alike g f h i xs x at e)
 
 -- the formula of each cell is one of the pool
-below : (count : ℕ) (o : Option ℕ) → ((at : ℕ) → o ≡ Some at → at < count) → IsBelow count o
+pub below : (count : ℕ) (o : Option ℕ) → ((at : ℕ) → o ≡ Some at → at < count) → IsBelow count o
 below count None h = tt
 below count (Some at) h = h at refl
 

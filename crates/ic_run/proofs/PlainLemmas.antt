@@ -1,5 +1,6 @@
 -- What the identity machine's commands leave of a book without merged cells and arrays of several cells.
 use Rattle.std.proofs.Common.{◌≡◌, ℕ, ◌+◌, pos, List, [], ◌∷◌, ◌++◌, Bool, true, false, cond, not, ◌&&◌, map, Option, Some, None, Ok, Err, option_map, slice_get, unwrap_or, refl, sym, ap, subst, ◌∙◌}
+use mathlib.Core.Bool.{and-false as no_and}
 use Rattle.std.specs.FinMap as finite
 use Rattle.std.specs.List.{AllByRecursion}
 use Rattle.std.specs.Prelude.{is_none, option_and_then}
@@ -40,10 +41,6 @@ use Rattle.ic_machine.specs.subjects.Writing.{Written, formula_at_place, formula
 use Rattle.ic_run.specs.Core.{IsPlain, IsPlainBook}
 
 -- No array is fixed. ----
-
-no_and : (b : Bool) → (b && false) ≡ false
-no_and true = refl
-no_and false = refl
 
 single_free : (a : Place) (s : Shape) → is_loose s ≡ true → is_fixed (array_from a s) ≡ false
 single_free a Empty h = refl

@@ -4,15 +4,13 @@ use Rattle.std.specs.FinMap as finite
 use Rattle.std.specs.List.{AllByRecursion, filter}
 use Rattle.std.specs.Prelude.{bytes_eq, unwrap_or}
 use Rattle.std.specs.Cmp.Lexicographic.{nat_list_cmp_total, slice_cmp}
-use Rattle.std.specs.Ordering.{eq_by_cmp, is_eq, nat_cmp}
-use Rattle.std.specs.declared.cmp.Ordering.{Ordering}
-use Rattle.std.specs.declared.cmp.Ordering.TheVariants.{Equal, Greater, Less}
+use Rattle.std.specs.Ordering.{eq_by_cmp, nat_cmp}
 use Rattle.std.proofs.lemmas.Bool.{false_from_ne_true}
 use Rattle.std.proofs.lemmas.Slice.Eq.{bytes_eq-Decides}
 use Rattle.ic_laws.specs.CoreStep.{Outcome}
 use Rattle.ic_machine.proofs.ReaderLemmas.{readers_leave}
 use Rattle.ic_machine.specs.Book.{Book, Stepped, as_core}
-use Rattle.ic_machine.specs.Command.{Command, OnArrays, OnDefinitions, OnExtending, OnLayout, OnNotation, OnReading, OnSheets, OnStyles, OnTabs, OnWriting, command_in, commands}
+use Rattle.ic_machine.specs.Command.{Command, OnNotation, command_in, commands}
 use Rattle.ic_machine.specs.Readers.{Leaves, LeavesIf, is_reader}
 use Rattle.ic_machine.specs.Reply.{Reply, reply_bytes}
 use Rattle.ic_machine.specs.Run.{after}
@@ -23,6 +21,7 @@ use Rattle.ic_run.proofs.TablesStay.{tables_stay}
 use Rattle.ic_share.specs.LeaveOut.{IsQuietIfBy, IsSameBut, LeavesNoTrace, is_by, is_line_of, is_quiet, told_each, without_user}
 use Rattle.ic_share.specs.Shared.{Languages, SharedBook, done_for, in_language, language_of, languages_left, sent_step, share_machine, with_choice}
 use Rattle.ic_share.specs.Users.{Sent, sent_in}
+use Rattle.ic_grid.proofs.ContentsLemmas.{equal as equal_order}
 
 -- a quiet command, in a book with another language, leaves the book but for that
 module _ (b : Book) (language : List ℕ) where
@@ -42,12 +41,6 @@ module _ (b : Book) (language : List ℕ) where
   quiet_stays None e = refl
   quiet_stays (Some (OnNotation (notation.SetLanguage id))) e = chosen id _
   quiet_stays (Some command) e = by_reader command e
-
--- users are told apart by their texts
-equal_order : (o : Ordering) → is_eq o ≡ true → o ≡ Equal
-equal_order Less e = absurd (cc)
-equal_order Equal e = refl
-equal_order Greater e = absurd (cc)
 
 same_by_order : (one other : List ℕ) → one ≢ other → eq_by_cmp (slice_cmp nat_cmp) one other ≡ false
 same_by_order one other differ = false_from_ne_true _ (λ e. differ (is_same e))

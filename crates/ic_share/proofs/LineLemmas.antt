@@ -1,10 +1,11 @@
 -- A line cut at its first tab, by its bytes and by its characters.
 use Rattle.std.proofs.Common.{◌≡◌, ℕ, suc, ◌+◌, ◌<◌, List, [], ◌∷◌, ◌++◌, ◌==◌, ◌||◌, Bool, true, false, cond, not, length, take, drop, Option, Some, None, is_some, unwrap_or, refl, sym, ap, ◌∙◌, arith, if◌then◌else◌}
+use mathlib.Core.Bool.{or-true as either}
 use lib.Utf8.{encode}
 use Rattle.std.specs.Str.{IsUtf8, chars}
 use Rattle.std.specs.List.{after_first, before_first, list_any, onto_first, position_or_len}
 use Rattle.std.proofs.Math.Seq.{drop-append-add, take-append_seam}
-use Rattle.std.proofs.lemmas.Bool.{eqb-true}
+use Rattle.std.proofs.lemmas.Bool.{eqb-true, or_parts as neither}
 use Rattle.std.proofs.lemmas.List.Folds.{list_any-append, list_any_none}
 use Rattle.std.proofs.lemmas.List.Splits.{slice_split-cons_no, slice_split_first}
 use Rattle.std.proofs.lemmas.Str.{IsCharBoundary-before_ascii, IsUtf8-take, chars-append, encodes-chars}
@@ -12,14 +13,6 @@ use Rattle.memchr.specs.Find.{IsFirstByte, is_byte}
 use Rattle.ic_laws.specs.Lines.{words_of}
 use Rattle.ic_lines.proofs.TextLemmas.{byte-before, byte-cut, byte-same, byte-searched}
 use Rattle.ic_share.specs.Users.{is_tab, parts_of}
-
-neither : (a b : Bool) → (a || b) ≡ false → (a ≡ false) × (b ≡ false)
-neither true b e = cc
-neither false b e = (refl, e)
-
-either : (a : Bool) → (a || true) ≡ true
-either true = refl
-either false = refl
 
 one_more : (n : ℕ) → 1 + n ≡ suc n
 one_more n = omega arith

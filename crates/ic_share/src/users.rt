@@ -14,7 +14,7 @@ ghost use Rattle.ic_commands.specs.Answered.{DoesLine};
 ghost use Rattle.ic_share.specs.Shared.{in_language, language_chosen, languages_left, sent_step};
 
 use crate::line::{parts_of, user_of};
-use ic_book::{BookError, Model};
+use ic_book::Model;
 use ic_commands::reply_to_text;
 use ic_laws::OutOfMemory;
 use ic_laws::scan::{first_char, same_text};

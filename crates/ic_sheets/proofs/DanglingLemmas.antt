@@ -1,5 +1,6 @@
 -- The ids of the sheets in which something dangles, as sheets come, go, move and change.
 use Rattle.std.proofs.Common.{◌≡◌, ℕ, zero, suc, ◌<◌, ◌≤◌, inl, inr, List, [], ◌∷◌, ◌++◌, Bool, true, false, cond, ◌&&◌, ◌||◌, not, length, take, drop, get_or, slice_set, nat_eq, refl, sym, ap, ap₂, subst, ◌∙◌, arith}
+pub use mathlib.Core.Bool.{or-true as or_true}
 use Rattle.std.proofs.lemmas.Bool.{cases_Bool, eq-eqb, eqb-true, or_parts}
 use Rattle.std.proofs.lemmas.List.{length-append, length-map, take-append-drop}
 use Rattle.std.proofs.lemmas.List.Folds.{list_any-append}
@@ -18,10 +19,6 @@ or_exchange true true c = refl
 or_exchange true false c = refl
 or_exchange false true c = refl
 or_exchange false false c = refl
-
-pub or_true : (a : Bool) → (a || true) ≡ true
-or_true true = refl
-or_true false = refl
 
 pub or_false : (a : Bool) → (a || false) ≡ a
 or_false true = refl

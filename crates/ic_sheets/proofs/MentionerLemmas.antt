@@ -1,12 +1,13 @@
 -- What is known of the mentions of sheets stays known, and what it tells of them.
 use Rattle.std.proofs.Common.{◌≡◌, ℕ, zero, suc, ◌<◌, ◌+◌, List, [], ◌∷◌, ◌++◌, Bool, true, false, cond, ◌||◌, None, Some, Result, Ok, Err, length, get_or, option_map, slice_set, set, take, drop, nat_eq, refl, sym, ap, ap₂, subst, ◌∙◌, arith, append_assoc, inl, inr}
 use Rattle.std.proofs.lemmas.Bool.{cases_Bool, cases_lt}
-use Rattle.std.proofs.lemmas.List.{append-nil, take_at, take_more}
+use Rattle.std.proofs.lemmas.List.{take_at, take_more}
 use Rattle.std.specs.BTreeSet.{BTreeSet, contains}
 use Rattle.std.specs.Cmp.{nat_eq_equiv}
 use Rattle.std.specs.List.{AllByRecursion, IsDistinct, insert, list_any, remove, slice_get}
 use Rattle.std.specs.Ordering.{nat_cmp}
 use Rattle.std.specs.Prelude.{IfOk, OnErr, OnOk}
+use Rattle.std.proofs.Math.Seq.{take-length as take_whole}
 use Rattle.ic_laws.proofs.core.Lists.{all_pushed, all_removed}
 use Rattle.ic_laws.specs.CoreBook.{CellPlace}
 use Rattle.ic_laws.specs.declared.memory.OutOfMemory.{OutOfMemory}
@@ -88,9 +89,6 @@ pub known_written : (before after : Mentioners) (sheets : List Sheet) (at : ℕ)
 known_written before after sheets at s t count h lt read keeps same counted begins rest =
     known_over before after sheets at t h keeps
     (known_longer before after t.id count s.pool.formulas t.pool.formulas (subst (λ id. KnowsPool before id s.pool.formulas) (sym same) (known_there before sheets at s h lt read)) keeps counted begins rest)
-
-take_whole : {X : Type 0} (xs : List X) → take (length xs) xs ≡ xs
-take_whole xs = ap (take (length xs)) (sym (append-nil xs)) ∙ take_at xs [] (length xs) refl
 
 begins_placed : (formula : Formula) (at : ℕ) (before after : List Formula) → IsPlaced formula at before after → take (length before) after ≡ before
 begins_placed formula at before after placed =

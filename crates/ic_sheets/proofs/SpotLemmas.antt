@@ -7,6 +7,7 @@ use Rattle.std.proofs.lemmas.Bool.{eq-eqb, eqb-true, ltb-false, ltb-true}
 use Rattle.ic_laws.specs.Greatest.{greatest}
 use Rattle.ic_sheets.specs.Spots.{Rise, index_at, with_indexes}
 use Rattle.ic_sheets.specs.declared.sheets.spots.Spot.{Spot}
+use Rattle.ic_sheets.proofs.IndexLemmas.{swap_choices}
 
 apart : (a b : ℕ) → (a ≡ b → ⊥) → nat_eq a b ≡ false
 apart a b h = step (nat_eq a b) refl
@@ -14,13 +15,6 @@ apart a b h = step (nat_eq a b) refl
     step : (c : Bool) → nat_eq a b ≡ c → nat_eq a b ≡ false
     step true e = absurd (h (eqb-true a b e))
     step false e = e
-
--- two choices that are never both taken may be made in either order
-swap_choices : {X : Type 0} (t b : Bool) (u v r : X) → (t ≡ true → b ≡ true → ⊥) → cond t u (cond b v r) ≡ cond b v (cond t u r)
-swap_choices true true u v r h = absurd (h refl refl)
-swap_choices true false u v r h = refl
-swap_choices false true u v r h = refl
-swap_choices false false u v r h = refl
 
 -- ---- one is found
 

@@ -1,5 +1,5 @@
 -- What is left of a book when one formula gets a value: only values differ.
-use Rattle.std.proofs.Common.{◌≡◌, ℕ, zero, suc, List, [], ◌∷◌, ◌++◌, map, Bool, true, false, cond, Option, Some, None, Ok, Err, refl, sym, ap, ap₂, subst, ◌∙◌}
+use Rattle.std.proofs.Common.{◌≡◌, ℕ, zero, suc, List, [], ◌∷◌, map, Bool, true, false, cond, Option, Some, None, Ok, Err, refl, sym, ap, ap₂, subst, ◌∙◌}
 use mathlib.Core.Bool.{true≢false}
 use Rattle.std.specs.FinMap as finite
 use Rattle.std.specs.List.{slice_get}
@@ -21,6 +21,8 @@ use Rattle.ic_machine.specs.Refusal.{InvalidSheet, Refusal}
 use Rattle.ic_machine.specs.Reply.{Field}
 use Rattle.ic_machine.specs.subjects.Arrays.{PutFormulaValue, arrays_step, put_value_step, with_grid_contents}
 use Rattle.ic_sums.specs.Evaluated.{OnlyValues, held_at, is_plain, unvalued, unvalued_sheet, without_values}
+use Rattle.ic_machine.proofs.SameLemmas.{cells_bare}
+use Rattle.ic_machine.proofs.ValidLemmas.{unseen_put as unseen_there}
 
 -- one content ----
 
@@ -84,11 +86,6 @@ module _ (a : Place) (value : FormulaValue) (m : Contents Content) where
       ∙ unvalued_at (valued_cell held cse value a q) (cell_follows cse value a q) (finite.get m q) ∙ sym (get-seen unvalued m q))
 
 -- a sheet in the place of another ----
-
-unseen_there : {X Y : Type 0} (g : X → Y) (i : ℕ) (xs : List X) (old new : X) → slice_get xs i ≡ Some old → g new ≡ g old → map g (updated_at (λ x. new) i xs) ≡ map g xs
-unseen_there g i [] old new e same = refl
-unseen_there g zero (x ∷ xs) old new e same = let is : x ≡ old = cc in ap (λ y. y ∷ map g xs) (same ∙ ap g (sym is))
-unseen_there g (suc i) (x ∷ xs) old new e same = ap (λ rest. g x ∷ rest) (unseen_there g i xs old new e same)
 
 module _ {X Y : Type 0} (P : Option Y → Type 0) (f : X → Option Y) where
   -- what is found in one of them at a time, where one in the place of another gives the same
@@ -165,10 +162,6 @@ entry_bare pool place (TextContent text style) = refl
 entry_bare pool place (FormulaContent index value style) = refl
 entry_bare pool place (AnchorContent index area kind value style) = refl
 entry_bare pool place (SpillContent anchor value style) = refl
-
-cells_bare : (pool : List Formula) (entries : List Entry) → core_cells pool (map bare entries) ≡ core_cells pool entries
-cells_bare pool [] = refl
-cells_bare pool (e ∷ es) = ap₂ (λ (x y : core.Cells). x ++ y) (entry_bare pool e.0 e.1) (cells_bare pool es)
 
 sheet_bare : (s : Sheet) → core_sheet (unvalued_sheet s) ≡ core_sheet s
 sheet_bare s =

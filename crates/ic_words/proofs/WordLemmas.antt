@@ -1,8 +1,8 @@
 -- The first word of a line, and words with an escape and without.
-use Rattle.std.proofs.Common.{◌≡◌, ◌≢◌, ℕ, ◌+◌, List, [], ◌∷◌, ◌==◌, length, map, take, drop, get_or, Bool, true, false, ◌||◌, Option, None, Some, Bor, chars, IsUtf8, All, option_map, refl, ap, sym, ◌∙◌, arith}
+use Rattle.std.proofs.Common.{◌≡◌, ◌≢◌, ℕ, ◌+◌, List, [], ◌∷◌, ◌==◌, length, map, take, drop, get_or, false, Option, None, Some, Bor, chars, IsUtf8, All, option_map, refl, ap, sym, ◌∙◌, arith}
 use Rattle.std.specs.List.{list_any, slice_split}
 use Rattle.std.specs.Str.{IsCharBoundary}
-use Rattle.std.proofs.lemmas.Bool.{eqb-true, false_from_ne_true}
+use Rattle.std.proofs.lemmas.Bool.{eqb-true, false_from_ne_true, or_right as either, or_parts as neither}
 use Rattle.std.proofs.lemmas.List.Elements.{All-from_get_or}
 use Rattle.std.proofs.lemmas.List.Splits.{length-slice_split, slice_split_at, slice_split_none}
 use Rattle.std.proofs.lemmas.Str.{IsCharBoundary-after_ascii, IsUtf8-drop, encodes-chars, scalars-chars}
@@ -10,7 +10,7 @@ use Rattle.memchr.specs.Find.{IsFirstByte, is_byte}
 use Rattle.ic_laws.specs.Lines.{unescaped, words_of}
 use Rattle.ic_lines.proofs.TextLemmas.{byte-before, byte-cut}
 use Rattle.ic_lines.proofs.WordLemmas.{pieces}
-use Rattle.ic_words.specs.Words.{HasEscape, HaveEscape, has_escape, words_left}
+use Rattle.ic_words.specs.Words.{HaveEscape, has_escape, words_left}
 
 -- a text can be cut after a tab
 pub after_tab : (bytes : List ℕ) (tab : ℕ) → IsUtf8 bytes → IsFirstByte (is_byte 9) bytes (Some tab) → IsCharBoundary bytes (tab + 1)
@@ -40,11 +40,6 @@ word_before bytes tab u found =
 pub some_word : (left : Option (Bor (List ℕ))) (line : Bor (List ℕ)) → left ≡ Some line → length (words_left left) ≢ 0
 some_word left line e none = omega (arith, none, ap length (ap words_left e), length-slice_split (λ c. c == 9) (chars line.now))
 
--- neither of two tests
-neither : (a b : Bool) → (a || b) ≡ false → (a ≡ false) × (b ≡ false)
-neither true b h = cc
-neither false b h = (refl, h)
-
 -- a word without an escape spells itself
 pub spells_itself : (cs : List ℕ) → has_escape cs ≡ false → unescaped cs ≡ Some cs
 spells_itself [] h = refl
@@ -52,15 +47,6 @@ spells_itself (c ∷ []) h = rw (neither (c == 92) false h).0 refl
 spells_itself (c ∷ d ∷ cs) h =
     let n = neither (c == 92) (has_escape (d ∷ cs)) h in
     rw n.0 (ap (option_map (λ t. c ∷ t)) (spells_itself (d ∷ cs) n.1))
-
--- one of two tests
-either : (a b : Bool) → b ≡ true → (a || b) ≡ true
-either true b h = refl
-either false b h = h
-
--- the first word has an escape
-pub escape_first : {words more : List (List ℕ)} {a : List ℕ} → words ≡ a ∷ more → HasEscape a → HaveEscape words
-escape_first e h = ap (list_any has_escape) e ∙ rw h refl
 
 -- words after the first have an escape
 pub escape_behind : {words more : List (List ℕ)} {a : List ℕ} → words ≡ a ∷ more → HaveEscape more → HaveEscape words

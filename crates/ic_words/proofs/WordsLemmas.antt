@@ -1,10 +1,9 @@
 -- What words say, one after another.
-use Rattle.std.proofs.Common.{◌≡◌, ◌≢◌, ℕ, List, [], ◌∷◌, length, Option, Some, None, Result, Ok, Err, IfOk, OnErr, Bor, chars, option_map, option_and_then, refl, ap, sym, ◌∙◌}
-use Rattle.std.proofs.lemmas.Result.{IfOk-weaker}
+use Rattle.std.proofs.Common.{◌≡◌, ◌≢◌, ℕ, List, [], ◌∷◌, length, Option, Some, None, Result, Ok, Err, OnErr, Bor, chars, option_map, option_and_then, refl, ap, sym, ◌∙◌}
 use Rattle.ic_laws.specs.Lines.{unescaped, word_texts, words_of}
 use Rattle.ic_machine.specs.Word.{AllSaid, Done, Said, Then, WordForm, Words, all_said, said, words_said as all_words_said}
-use Rattle.ic_words.specs.Words.{HasEscape, HaveEscape, word_said, words_left, words_said}
-use Rattle.ic_words.proofs.WordLemmas.{escape_behind, escape_first, some_word}
+use Rattle.ic_words.specs.Words.{HaveEscape, word_said, words_left, words_said}
+use Rattle.ic_words.proofs.WordLemmas.{escape_behind, some_word}
 
 pub nowhere : {A B C : Type 0} (g : A → B → C) (o : Option A) → option_and_then (λ x. option_map (g x) None) o ≡ None
 nowhere g None = refl
@@ -61,16 +60,9 @@ module _ (english : List (List ℕ)) (form : WordForm) (plain : (text : List ℕ
 
 -- the words that are left have an escape where the first one has, or where one of the others has
 module _ (left : Option (Bor (List ℕ))) (line : Bor (List ℕ)) (word : List ℕ) (after : List (List ℕ)) (is : left ≡ Some line) (cut : words_of (chars line.now) ≡ word ∷ after) where
-  pub first_has_escape : HasEscape word → HaveEscape (words_left left)
-  first_has_escape h = escape_first (ap words_left is ∙ cut) h
-
   pub others_have_escape : HaveEscape after → HaveEscape (words_left left)
   others_have_escape h = escape_behind (ap words_left is ∙ cut) h
 
 pub always : {T E X : Type 0} (result : Result T E) → X → OnErr result X
 always (Ok value) x = tt
 always (Err e) x = x
-
--- what holds of a result, where what is known of it says so
-pub where_ok : {T E : Type 0} (r : Result T E) {P Q : T → Type 0} → IfOk r P → ((x : T) → P x → Q x) → IfOk r Q
-where_ok r {P} {Q} h f = IfOk-weaker r P Q f h

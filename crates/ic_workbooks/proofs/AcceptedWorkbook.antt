@@ -4,6 +4,7 @@ use Rattle.std.specs.FinMap as finite
 use Rattle.std.specs.List.{AllByRecursion, IsDistinct}
 use Rattle.std.specs.Option.{option_or}
 use Rattle.std.specs.Prelude.{bytes_eq, codes, option_and_then}
+use Rattle.std.proofs.lemmas.Bool.{not-false as so}
 use Rattle.ic_laws.specs.Binding.{bound}
 use Rattle.ic_laws.specs.CoreBook.{CellPlace, Sheet as CoreSheet, spelling_of}
 use Rattle.ic_laws.specs.Dialect.{DialectMeaning}
@@ -134,13 +135,9 @@ none_of false true c r s t e = cc
 none_of false false true r s t e = cc
 none_of false false false r s t e = (refl, refl, refl)
 
-some_there : {X : Type 0} (o : Option X) → is_none o ≡ false → is_some o ≡ true
+pub some_there : {X : Type 0} (o : Option X) → is_none o ≡ false → is_some o ≡ true
 some_there None e = cc
 some_there (Some x) e = refl
-
-so : (b : Bool) → not b ≡ false → b ≡ true
-so true e = refl
-so false e = cc
 
 -- the book that the records stand for ----
 

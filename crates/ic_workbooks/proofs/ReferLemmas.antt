@@ -1,7 +1,7 @@
 -- That no reference lies outside is that each lies inside; and the formulas of cells are those of what the cells are.
 use mathlib.Core.Path.{fun_ext}
-use Rattle.std.proofs.Common.{◌≡◌, ◌↔◌, ◌||◌, ◌<◌, ◌∙◌, ℕ, zero, suc, ℤ, List, [], ◌∷◌, Bool, true, false, not, map, length, get_or, Some, None, refl, sym, ap, ap₂, arith, subst, option_map}
-use Rattle.std.proofs.lemmas.Bool.{or_parts}
+use Rattle.std.proofs.Common.{◌≡◌, ◌↔◌, ◌||◌, ◌<◌, ◌∙◌, ℕ, zero, suc, ℤ, List, [], ◌∷◌, Bool, false, not, map, length, get_or, Some, None, refl, sym, ap, ap₂, arith, subst, option_map}
+use Rattle.std.proofs.lemmas.Bool.{or_parts, not-false as negated}
 use Rattle.std.proofs.lemmas.List.Elements.{All-contains, All-from_recursion, Contains-get_or, recursion_from_All}
 use Rattle.std.proofs.lemmas.Map.Views.{btree_map_get_iff}
 use Rattle.std.proofs.lemmas.Option.{slice_get_within}
@@ -10,6 +10,7 @@ use Rattle.std.specs.BTreeMap as tree
 use Rattle.std.specs.BTreeMap.{BTreeMap}
 use Rattle.std.specs.FinMap as finite
 use Rattle.std.specs.List.{AllByRecursion, Contains, list_any, slice_get}
+pub use Rattle.std.proofs.lemmas.Bool.{not-true as unnegated}
 use Rattle.ic_laws.proofs.core.CellWritten.{place_cmp_total, place_tied}
 use Rattle.ic_laws.proofs.binding.Again.{BoundKind, bound_node}
 use Rattle.ic_laws.proofs.binding.Induction.{Every, EveryPair, OfChildren, by_nodes, every_below, every_here, every_made, every_value}
@@ -42,14 +43,6 @@ use Rattle.ic_parts.proofs.WholeLemmas.{index_seen}
 
 neither : {a b : Bool} → a ≡ false → b ≡ false → (a || b) ≡ false
 neither e f = ap₂ (λ x y. x || y) e f
-
-negated : (b : Bool) → not b ≡ false → b ≡ true
-negated true e = refl
-negated false e = cc
-
-pub unnegated : (b : Bool) → not b ≡ true → b ≡ false
-unnegated true e = cc
-unnegated false e = refl
 
 module _ {X : Type 0} (test : X → Bool) (P : X → Type 0) where
   none_told : (xs : List X) → AllByRecursion (λ x. (test x ≡ false → P x) × (P x → test x ≡ false)) xs → list_any (λ b. b) (map test xs) ≡ false → AllByRecursion P xs

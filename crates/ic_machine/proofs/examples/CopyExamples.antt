@@ -1,5 +1,6 @@
 -- A copy of a sheet by example: where its formulas and the definitions that it gets point.
 use Rattle.std.proofs.Common.{◌≡◌, cond, ℕ, List, [], ◌∷◌, Bool, true, false, Option, Some, None, codes, ap, refl}
+pub use mathlib.Core.Bool.{and-false as no_more}
 use Rattle.std.specs.Prelude.{◌&&◌}
 use Rattle.caseless.proofs.Computing.{caseless}
 use Rattle.ic_laws.specs.Changes.{is_of_sheet}
@@ -44,10 +45,6 @@ module _ (place : Place) where
 -- first isn't
 abbrev defined : List ℕ → Option ℕ → Formula → Definition
 defined name scope body = record { name = name; scope = scope; has_equals = false; body = body }
-
-pub no_more : (mentions : Bool) → (mentions && false) ≡ false
-no_more true = refl
-no_more false = refl
 
 local_ones : (body : Formula)
     → copied_of 1 (defined (codes "x") None body ∷ defined (codes "x") (Some 1) body ∷ defined (codes "y") (Some 2) body ∷ defined (codes "z") (Some 1) body ∷ [])

@@ -1,5 +1,5 @@
 //! Names of sheets that are a word with a number behind it.
-ghost use Rattle.std.specs.Prelude.{◌≡◌, ◌++◌, ◌==◌, ◌<◌, IfOk, IfSome, chars, length, map, slice_index, slice_index_or, false};
+ghost use Rattle.std.specs.Prelude.{◌≡◌, ◌==◌, ◌<◌, IfOk, IfSome, chars, length, map, slice_index, slice_index_or, false};
 ghost use Rattle.std.specs.Fmt.{decimal};
 ghost use Rattle.ic_sheets.specs.Numbers.{AreMarked, numbered};
 

@@ -1,6 +1,6 @@
 //! At which index a sheet stands, found by its id. All is in one list, so that it is gone over at once where many sheets
 //! come to stand elsewhere.
-ghost use Rattle.std.specs.Prelude.{◌≡◌, ◌<◌, ◌≤◌, ℕ, [], IfOk, MatchOption, None, OnErr, OnOk, Some, length, map, nat_eq, option_map, vec_capacity, vec_len, if◌then◌else◌};
+ghost use Rattle.std.specs.Prelude.{◌≡◌, ◌<◌, ◌≤◌, ℕ, [], IfOk, MatchOption, None, OnOk, Some, length, map, nat_eq, option_map, vec_capacity, vec_len, if◌then◌else◌};
 ghost use Rattle.std.specs.List.{AllWithin, HoldsAt, IsDistinct};
 ghost use Rattle.std.specs.Bool.{Decides};
 ghost use Rattle.ic_laws.specs.Greatest.{greatest};

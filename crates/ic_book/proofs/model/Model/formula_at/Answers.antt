@@ -2,7 +2,7 @@ use Rattle.std.proofs.Common.{◌≡◌, ◌∙◌, None, Some, ap, cond, false,
 use Rattle.std.specs.FinMap as finite
 use Rattle.ic_laws.specs.CoreBook.{CellPlace, formula_at}
 use Rattle.ic_laws.specs.CoreStep.{formula_of, lacks_sheet}
-use Rattle.ic_laws.specs.Refusal.{InvalidSheet, Refusal}
+use Rattle.ic_laws.specs.Refusal.{InvalidSheet}
 use Rattle.ic_sheets.proofs.CellLemmas.{stored_pair}
 use Rattle.ic_sheets.specs.Sheet.{cells_of}
 use Rattle.ic_parts.specs.Book.{ModelState, core_of}
