@@ -61,9 +61,30 @@ impl<'a> Model<'a> {
         // After an error the look-up of this sheet may be there; the others are as before.
         ensures left { OnErr result (LooksUpAsBefore sheet self.old self.new) }
     {
+        self.type_formula(sheet, row, column, formula.as_str())
+    }
+
+    /// The same with a formula that is lent.
+    pub fn type_formula(
+        &mut self,
+        sheet: u32,
+        row: i32,
+        column: i32,
+        formula: &str,
+    ) -> Result<(), BookError>
+        ensures does { DoesIn writing_step
+            (UpdateCellWithFormula sheet row column (chars formula.now)) no_fields
+            result self.old self.new }
+        ensures looks_up { OnOk result
+            (self.new.has_all ≡ updated_at (λ _. true) sheet self.old.has_all) }
+        ensures whole { OnOk result (slice_get self.new.has_all sheet ≡ Some true) }
+
+        // After an error the look-up of this sheet may be there; the others are as before.
+        ensures left { OnErr result (LooksUpAsBefore sheet self.old self.new) }
+    {
         let shown = self.style_to_write(sheet, row, column)?;
         let locale = &self.notation.locale().locale;
-        let Some(body) = formula_without_prefix(formula.as_str(), locale) else {
+        let Some(body) = formula_without_prefix(formula, locale) else {
             return Err(BookError::NotAFormula);
         };
         self.write_formula(sheet, row, column, body, shown)

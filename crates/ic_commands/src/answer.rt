@@ -127,7 +127,7 @@ fn answer(
         Command::Sheets(command) => answer_sheets(model, command, reply),
         Command::Definitions(command) => answer_definitions(model, command, reply),
         Command::Notation(command) => answer_notation(model, command, reply),
-        Command::Writing(command) => answer_writing(alloc, model, command, reply),
+        Command::Writing(command) => answer_writing(model, command, reply),
         Command::Reading(command) => answer_reading(model, command, reply),
         Command::Extending(command) => answer_extending(model, command, reply),
         Command::Styles(command) => answer_styles(alloc, model, command, reply),

@@ -8,12 +8,10 @@ use crate::told::told;
 use ic_book::Model;
 use ic_laws::OutOfMemory;
 use ic_words::Writing;
-use std::alloc::Global;
 
 /// Does a command that writes a cell, and puts its reply behind a text that has room for one without a field.
 #[tactic(auto, using(crate::proofs::AnswerLemmas::only_read))]
 pub(crate) fn answer_writing(
-    alloc: Global,
     model: &mut Model<'_>,
     command: Writing<'_>,
     reply: String,
@@ -28,10 +26,7 @@ pub(crate) fn answer_writing(
             row,
             column,
             text,
-        } => {
-            let text = text.into_string(alloc)?;
-            told(model.set_user_input(sheet, row, column, text), reply)
-        }
+        } => told(model.type_text(sheet, row, column, text.as_str()), reply),
         Writing::UpdateCellWithText {
             sheet,
             row,
@@ -46,13 +41,7 @@ pub(crate) fn answer_writing(
             row,
             column,
             text,
-        } => {
-            let text = text.into_string(alloc)?;
-            told(
-                model.update_cell_with_formula(sheet, row, column, text),
-                reply,
-            )
-        }
+        } => told(model.type_formula(sheet, row, column, text.as_str()), reply),
         Writing::UpdateCellWithBool {
             sheet,
             row,

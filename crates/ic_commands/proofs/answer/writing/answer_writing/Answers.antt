@@ -4,14 +4,14 @@ use Rattle.ic_words.specs.subjects.Writing.{writing_meant}
 use Rattle.ic_commands.proofs.AnswerLemmas.{changed}
 use Rattle.ic_commands.proofs.answer.writing.answer_writing.Goals as goal
 
-pub returns-in_ok-text-in-SetUserInput : goal.returns-in_ok-text-in-SetUserInput
-returns-in_ok-text-in-SetUserInput c = changed (OnWriting (writing_meant c.args.command)) refl c.told.ensures c.set_user_input.ensures.does (search rules) (search rules) refl
+pub returns-in-SetUserInput : goal.returns-in-SetUserInput
+returns-in-SetUserInput c = changed (OnWriting (writing_meant c.args.command)) refl c.told.ensures c.type_text.ensures.does (search rules) (search rules) refl
 
 pub returns-in-UpdateCellWithText : goal.returns-in-UpdateCellWithText
 returns-in-UpdateCellWithText c = changed (OnWriting (writing_meant c.args.command)) refl c.told-in-UpdateCellWithText.ensures c.update_cell_with_text.ensures.does (search rules) (search rules) refl
 
-pub returns-in_ok-text-in-UpdateCellWithFormula : goal.returns-in_ok-text-in-UpdateCellWithFormula
-returns-in_ok-text-in-UpdateCellWithFormula c = changed (OnWriting (writing_meant c.args.command)) refl c.told-in-UpdateCellWithFormula.ensures c.update_cell_with_formula.ensures.does (search rules) (search rules) refl
+pub returns-in-UpdateCellWithFormula : goal.returns-in-UpdateCellWithFormula
+returns-in-UpdateCellWithFormula c = changed (OnWriting (writing_meant c.args.command)) refl c.told-in-UpdateCellWithFormula.ensures c.type_formula.ensures.does (search rules) (search rules) refl
 
 pub returns-in-UpdateCellWithBool : goal.returns-in-UpdateCellWithBool
 returns-in-UpdateCellWithBool c = changed (OnWriting (writing_meant c.args.command)) refl c.told-in-UpdateCellWithBool.ensures c.update_cell_with_bool.ensures.does (search rules) (search rules) refl
