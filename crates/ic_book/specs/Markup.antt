@@ -10,5 +10,6 @@ use Rattle.ic_parts.specs.Markup.{sheet_shown}
 abbrev pub markup_at : Book → ℕ → List ℕ
 markup_at book index = option_map_or (sheet_shown book) (slice_get book.sheets index) []
 
+-- the field of a reply that it is
 abbrev pub markup_fields : Book → ℕ → List Field
 markup_fields book index = text_field (markup_at book index)

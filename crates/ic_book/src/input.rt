@@ -82,7 +82,8 @@ impl<'a> Model<'a> {
         column: i32,
         value: &str,
     ) -> Result<(), BookError>
-        ensures does { DoesIn writing_step (SetUserInput sheet row column (chars value.now)) no_fields
+        ensures does { DoesIn writing_step
+            (SetUserInput sheet row column (chars value.now)) no_fields
             result self.old self.new }
 
         // What the cell showed leaves in it what it held.

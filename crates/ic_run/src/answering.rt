@@ -31,8 +31,8 @@ pub trait Answers {
         last: String,
     ) -> Result<String, OutOfMemory>
         requires ready { is_ready self.old model.old }
-        ensures does { IfOk result (λ reply.
-            does (chars line.now) (self.old, model.old) (self.new, model.new) (string_bytes reply)) }
+        ensures does { IfOk result (λ reply. does (chars line.now)
+            (self.old, model.old) (self.new, model.new) (string_bytes reply)) }
         ensures ready { OnOk result (is_ready self.new model.new) }
         ensures stays { OnErr result (stays (self.old, model.old) (self.new, model.new)) };
 }
