@@ -24,7 +24,6 @@ use Rattle.ic_machine.proofs.FormulaLemmas.{in_front}
 use Rattle.ic_machine.proofs.ReaderLemmas.{readers_leave}
 use Rattle.ic_machine.proofs.SubjectsStay.{lines_unless, not_caused}
 use Rattle.ic_machine.proofs.ValidLemmas.{AreLines, column_put, grids_stay, holds_at, lines_held, lines_of, put_valid, row_put, stays_found, stays_leaving, stays_unless, styles_more}
-use Rattle.ic_cells.proofs.PlacedLemmas.{none_left as none_before, none_is as not_some}
 
 -- one style is another whichever is named first ----
 
@@ -47,6 +46,11 @@ style_flip a b =
 
 -- a style among others, or at their end ----
 
+none_before : (b : Bool) (o : Option ℕ) → cond b (Some 0) (option_map suc o) ≡ None → (b ≡ false) × (o ≡ None)
+none_before true o e = cc
+none_before false None e = (refl, refl)
+none_before false (Some k) e = cc
+
 past_first : (b : Bool) (o : Option ℕ) (n at : ℕ) → ((k : ℕ) → o ≡ Some k → k < n) → cond b (Some 0) (option_map suc o) ≡ Some at → at < suc n
 past_first true o n at h e = let start : zero ≡ at = cc in omega (arith, start)
 past_first false None n at h e = cc
@@ -61,6 +65,10 @@ pushed_none t s [] e f = ap (λ b. cond b (Some 0) (option_map suc None)) f
 pushed_none t s (u ∷ all) e f =
     let parts = none_before (is_style t u) (first_place t all) e in
     ap (λ b. cond b (Some 0) (option_map suc (first_place t (all ++ s ∷ [])))) parts.0 ∙ ap (λ o. option_map suc o) (pushed_none t s all parts.1 f)
+
+not_some : (o : Option ℕ) → not (is_some o) ≡ true → o ≡ None
+not_some None e = refl
+not_some (Some k) e = cc
 
 pushed_different : (s : Style) (all : List Style) → first_place s all ≡ None → are_different all ≡ true → are_different (all ++ s ∷ []) ≡ true
 pushed_different s [] e d = refl

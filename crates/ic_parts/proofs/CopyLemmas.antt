@@ -16,11 +16,11 @@ use Rattle.std.specs.Map.{update_all}
 use Rattle.std.specs.Ordering.{eq_by_cmp}
 use Rattle.std.specs.declared.cmp.Ordering.{Ordering}
 use Rattle.ic_cells.specs.Listed.{IsPlaced, are_apart, place_in}
-use Rattle.ic_cells.specs.Style.{AreStyles, is_style}
+use Rattle.ic_cells.specs.Style.{AreStyles, is_color, is_flag, is_style}
+use Rattle.ic_cells.specs.declared.style.Color.{Color}
 use Rattle.ic_cells.specs.declared.style.Color.TheVariants as colors
 use Rattle.ic_cells.specs.declared.style.Style.{Style}
 use Rattle.ic_grid.proofs.WalkLemmas.{map_get}
-use Rattle.ic_cells.proofs.StyleLemmas.{flag_again as flag_itself, color_again as color_itself, style_again as style_itself}
 
 -- a finite map with these entries put in, one after another
 pub inserted : {K X : Type 0} {R : K → K → Ordering} → FinMap R X → List (K × X) → FinMap R X
@@ -89,6 +89,15 @@ taken x (y ∷ ys) (suc count) (suc at) e = let rest = taken x ys count at e in 
 
 -- styles ----
 
+flag_itself : (b : Bool) → is_flag b b ≡ true
+flag_itself true = refl
+flag_itself false = refl
+
+color_itself : (c : Color) → is_color c c ≡ true
+color_itself colors.None = refl
+color_itself (colors.Rgb text) = (bytes_eq-Decides text text).1 refl
+
+style_itself : (s : Style) → is_style s s ≡ true
 unfolding is_style
 style_itself s = ap₂ ◌&&◌ (ap₂ ◌&&◌ (ap₂ ◌&&◌ ((bytes_eq-Decides s.num_fmt s.num_fmt).1 refl) (flag_itself s.quote_prefix)) (flag_itself s.bold)) (color_itself s.fill)
 

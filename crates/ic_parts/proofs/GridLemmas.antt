@@ -15,6 +15,7 @@ pub use Rattle.std.proofs.Math.Seq.{take-length as take_all}
 use Rattle.ic_cells.specs.Style.{default_style, first_place, is_color, is_flag, is_style, style_at, with_format, with_quote_prefix}
 use Rattle.ic_cells.specs.declared.cell.Cell.{Cell}
 use Rattle.ic_cells.specs.declared.cell.Cell.TheVariants as cells
+use Rattle.ic_cells.specs.declared.style.Color.{Color}
 use Rattle.ic_cells.specs.declared.style.Color.TheVariants as colors
 use Rattle.ic_cells.specs.declared.style.Style.{Style}
 use Rattle.ic_cells.specs.Cell.{style_of}
@@ -51,7 +52,6 @@ use Rattle.ic_parts.specs.Refused.{TellsOnly, of_grid, refusal_of}
 use Rattle.ic_parts.specs.Values.{keeps_code, value_causes}
 use Rattle.ic_parts.specs.Written.{cell_causes}
 use Rattle.ic_parts.specs.declared.error.BookError.{BookError}
-use Rattle.ic_cells.proofs.StyleLemmas.{flag_again as flag_itself, color_again as color_itself, style_again as style_itself}
 
 -- What holds of each cell, and of an empty one, and of a formula's that is reset, holds after a write. ----
 
@@ -185,6 +185,14 @@ value_told grid place row column = ap₂ (λ (row column : Bool). first_refusal 
 abbrev restyled_by : (Style → Style) → Bool → List Style → ℕ → Numbered
 restyled_by change same styles number = if same then record { number = number; styles = styles } else numbered (change (style_at styles number)) styles
 
+flag_itself : (b : Bool) → is_flag b b ≡ true
+flag_itself true = refl
+flag_itself false = refl
+
+color_itself : (c : Color) → is_color c c ≡ true
+color_itself colors.None = refl
+color_itself (colors.Rgb t) = (bytes_eq-Decides t t).1 refl
+
 is_same : (quoted : Bool) (s : Style) → s.quote_prefix ≡ quoted → is_style (with_quote_prefix quoted s) s ≡ true
 unfolding is_style
 is_same quoted s e =
@@ -208,6 +216,7 @@ quote_new quoted styles number e = ap (λ b. restyled_by (with_quote_prefix quot
 
 -- where nothing changes, and where a code and the flag do ----
 
+style_itself : (s : Style) → is_style s s ≡ true
 unfolding is_style
 style_itself s = and_from _ _ (and_from _ _ (and_from _ _ ((bytes_eq-Decides s.num_fmt s.num_fmt).1 refl) (flag_itself s.quote_prefix)) (flag_itself s.bold)) (color_itself s.fill)
 
