@@ -1,11 +1,13 @@
-use Rattle.std.proofs.Common.{map, sym, ap, subst, ◌∙◌}
+use Rattle.std.proofs.Common.{List, map, sym, ap, subst, ◌∙◌}
 use Rattle.ic_laws.specs.BookTrees.{IsMoved}
+use Rattle.ic_laws.specs.CoreBook.{Sheet as CoreSheet}
 use Rattle.ic_laws.specs.CoreStep.{moved}
+use Rattle.ic_sheets.specs.Sheet.{sheet_core}
 use Rattle.ic_sheets.specs.declared.sheet.Sheet.{Sheet as HeldSheet}
 use Rattle.ic_parts.specs.Book.{ModelState, core_of}
 use Rattle.ic_parts.specs.Change.{with_moved_sheet}
 use Rattle.ic_book.specs.Inside.{held}
-use Rattle.ic_parts.proofs.BookLemmas.{core_of-moved, moved-map}
+use Rattle.ic_parts.proofs.BookLemmas.{moved-map}
 use Rattle.ic_parts.proofs.BookValid.{moved_valid}
 use Rattle.ic_book.proofs.HeldLemmas.{held_after, keeps_moved, put}
 use Rattle.ic_parts.proofs.HeldLemmas.{move_accepts, there_is, within_of}
@@ -32,7 +34,9 @@ returns-clause-looks_up c =
     ∙ ap (λ (m : ModelState). moved c.args.sheet_index c.args.new_index m.has_all) c.self.view_is
 
 pub returns-clause-core : goal.returns-clause-core
-returns-clause-core c = ap core_of (returns-clause-ok c) ∙ core_of-moved c.args.sheet_index c.args.new_index c.args.self.now.book
+returns-clause-core c =
+    ap core_of (returns-clause-ok c)
+    ∙ ap (λ (ss : List CoreSheet). record (core_of c.args.self.now.book) { sheets = ss }) (moved-map sheet_core c.args.sheet_index c.args.new_index c.args.self.now.book.sheets)
 
 pub returns-clause-found : goal.returns-clause-found
 returns-clause-found c =
