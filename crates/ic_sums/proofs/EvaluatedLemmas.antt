@@ -1,5 +1,5 @@
 -- What is left of a book when one formula gets a value: only values differ.
-use Rattle.std.proofs.Common.{◌≡◌, ℕ, zero, suc, List, [], ◌∷◌, map, Bool, true, false, cond, Option, Some, None, Ok, Err, refl, sym, ap, ap₂, subst, ◌∙◌}
+use Rattle.std.proofs.Common.{◌≡◌, ℕ, zero, suc, List, [], ◌∷◌, ◌++◌, map, Bool, true, false, cond, Option, Some, None, Ok, Err, refl, sym, ap, ap₂, subst, ◌∙◌}
 use mathlib.Core.Bool.{true≢false}
 use Rattle.std.specs.FinMap as finite
 use Rattle.std.specs.List.{slice_get}
@@ -21,7 +21,6 @@ use Rattle.ic_machine.specs.Refusal.{InvalidSheet, Refusal}
 use Rattle.ic_machine.specs.Reply.{Field}
 use Rattle.ic_machine.specs.subjects.Arrays.{PutFormulaValue, arrays_step, put_value_step, with_grid_contents}
 use Rattle.ic_sums.specs.Evaluated.{OnlyValues, held_at, is_plain, unvalued, unvalued_sheet, without_values}
-use Rattle.ic_machine.proofs.SameLemmas.{cells_bare}
 use Rattle.ic_machine.proofs.ValidLemmas.{unseen_put as unseen_there}
 
 -- one content ----
@@ -162,6 +161,10 @@ entry_bare pool place (TextContent text style) = refl
 entry_bare pool place (FormulaContent index value style) = refl
 entry_bare pool place (AnchorContent index area kind value style) = refl
 entry_bare pool place (SpillContent anchor value style) = refl
+
+cells_bare : (pool : List Formula) (entries : List Entry) → core_cells pool (map bare entries) ≡ core_cells pool entries
+cells_bare pool [] = refl
+cells_bare pool (e ∷ es) = ap₂ (λ (x y : core.Cells). x ++ y) (entry_bare pool e.0 e.1) (cells_bare pool es)
 
 sheet_bare : (s : Sheet) → core_sheet (unvalued_sheet s) ≡ core_sheet s
 sheet_bare s =
