@@ -2,4 +2,5 @@ pub mod Alike
 pub mod Capture
 pub mod Change
 pub mod Copy
+pub mod Rebound
 pub mod Touched

@@ -1,11 +1,12 @@
-ghost use Rattle.std.specs.Prelude.{◌≡◌, IfOk};
+ghost use Rattle.std.specs.Prelude.{◌≡◌, IfOk, if◌then◌else◌, nat_eq};
 ghost use Rattle.ic_keep.specs.Copy.{copied, copied_for, copy_spelling};
 ghost use Rattle.ic_laws.specs.Scene.{definition_spelling};
 ghost use Rattle.ic_tree.specs.LanguageWords.{function_of};
 
+use crate::rebinding::{Renaming, rebind};
 use ic_laws::{Bound, Finder, Formula, NameKey, OutOfMemory, Text};
 use ic_tables::Language;
-use ic_tree::{Spelling, bind, spell_definition, spell_sheet, spell_with};
+use ic_tree::spell_sheet;
 use std::alloc::Global;
 
 /// The names in a book with the copy of a sheet; the source is written by the name of its copy.
@@ -16,22 +17,34 @@ struct Copying<'a, A: Finder> {
     copy: u32,
 }
 
-impl<'a, A: Finder> Spelling for Copying<'a, A> {
+impl<'a, A: Finder> Renaming for Copying<'a, A> {
     ghost sheet_text = { λ copying. copy_spelling (A.scene copying.after.now)
         copying.source copying.copy };
 
     ghost key_text = { λ copying. definition_spelling (A.scene copying.after.now) };
 
-    fn sheet_text(&self, alloc: Global, id: u32) -> Result<Text, OutOfMemory> {
-        if id == self.source {
-            spell_sheet(alloc, self.after, self.copy)
-        } else {
-            spell_sheet(alloc, self.after, id)
-        }
+    fn sheet_name(&self, id: u32) -> Option<&str> {
+        self.after.sheet_spelling(self.named_by(id))
     }
 
-    fn key_text(&self, alloc: Global, key: &NameKey) -> Result<Text, OutOfMemory> {
-        spell_definition(alloc, self.after, key)
+    fn sheet_text(&self, alloc: Global, id: u32) -> Result<Text, OutOfMemory> {
+        spell_sheet(alloc, self.after, self.named_by(id))
+    }
+
+    fn key_text<'k>(&'k self, key: &'k NameKey) -> &'k str {
+        match self.after.name_spelling(key) {
+            Some(name) => name,
+            None => key.name.as_str(),
+        }
+    }
+}
+
+impl<'a, A: Finder> Copying<'a, A> {
+    /// The id of the sheet by whose name this one is written.
+    fn named_by(&self, id: u32) -> u32
+        ensures { result ≡ (if nat_eq id self.now.source then self.now.copy else id) }
+    {
+        if id == self.source { self.copy } else { id }
     }
 }
 
@@ -56,8 +69,7 @@ pub fn keep_copy<A: Finder>(
         source,
         copy,
     };
-    let written = spell_with(alloc, &copying, tree)?;
-    bind(alloc, after, english, scope, &written)
+    rebind(alloc, &copying, after, english, scope, tree)
 }
 
 /// What is kept of a formula of a sheet that is copied, as the copy has it. A text that doesn't read is copied as it is.

@@ -5,9 +5,10 @@ ghost use Rattle.ic_tree.specs.LanguageWords.{function_of};
 
 use crate::KeyChange;
 use crate::change::changed_key;
+use crate::rebinding::{Renaming, rebind};
 use ic_laws::{Bound, Finder, Formula, NameKey, OutOfMemory, Text};
 use ic_tables::Language;
-use ic_tree::{Spelling, bind, spell_definition, spell_sheet, spell_with};
+use ic_tree::spell_sheet;
 use std::alloc::Global;
 
 /// The names after a change, and those before it of what is gone.
@@ -18,10 +19,19 @@ struct Change<'k, B: Finder, A: Finder> {
     key: Option<&'k KeyChange>,
 }
 
-impl<'k, B: Finder, A: Finder> Spelling for Change<'k, B, A> {
-    ghost sheet_text = { λ change. kept_sheet (B.scene change.before.now) (A.scene change.after.now) };
+impl<'k, B: Finder, A: Finder> Renaming for Change<'k, B, A> {
+    ghost sheet_text = { λ change. kept_sheet (B.scene change.before.now)
+        (A.scene change.after.now) };
 
-    ghost key_text = { λ change. kept_name (B.scene change.before.now) (A.scene change.after.now) (change_of (option_copied change.key)) };
+    ghost key_text = { λ change. kept_name (B.scene change.before.now)
+        (A.scene change.after.now) (change_of (option_copied change.key)) };
+
+    fn sheet_name(&self, id: u32) -> Option<&str> {
+        match self.after.sheet_spelling(id) {
+            Some(name) => Some(name),
+            None => self.before.sheet_spelling(id),
+        }
+    }
 
     fn sheet_text(&self, alloc: Global, id: u32) -> Result<Text, OutOfMemory> {
         match self.after.sheet_spelling(id) {
@@ -30,10 +40,13 @@ impl<'k, B: Finder, A: Finder> Spelling for Change<'k, B, A> {
         }
     }
 
-    fn key_text(&self, alloc: Global, key: &NameKey) -> Result<Text, OutOfMemory> {
-        match self.after.name_spelling(changed_key(self.key, key)) {
-            Some(name) => Ok(Text::from_str(alloc, name)?),
-            None => spell_definition(alloc, self.before, key),
+    fn key_text<'n>(&'n self, key: &'n NameKey) -> &'n str {
+        if let Some(name) = self.after.name_spelling(changed_key(self.key, key)) {
+            return name;
+        }
+        match self.before.name_spelling(key) {
+            Some(name) => name,
+            None => key.name.as_str(),
         }
     }
 }
@@ -60,8 +73,7 @@ pub fn keep<B: Finder, A: Finder>(
         after,
         key: change,
     };
-    let written = spell_with(alloc, &change, tree)?;
-    bind(alloc, after, english, scope, &written)
+    rebind(alloc, &change, after, english, scope, tree)
 }
 
 /// What is kept of a formula, over a change of its book. A text that doesn't read stays as it is.

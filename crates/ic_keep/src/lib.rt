@@ -12,6 +12,7 @@ mod capture;
 mod change;
 mod copying;
 mod keeping;
+mod rebinding;
 mod touched;
 
 pub use capture::{captured, captured_formula};
