@@ -9,6 +9,7 @@ pub mod DateSteps
 pub mod DayLemmas
 pub mod DigitLemmas
 pub mod FormatLemmas
+pub mod FoundLemmas
 pub mod GroupLemmas
 pub mod InputExamples
 pub mod LiteralLemmas

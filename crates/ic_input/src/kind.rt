@@ -1,17 +1,16 @@
 //! What a typed text is, as parts of the text itself.
-ghost use Rattle.std.specs.Prelude.{◌≡◌, ◌∷◌, neg_ℤ, chars, length};
-ghost use Rattle.ic_tables.specs.Words.{words_of};
+ghost use Rattle.std.specs.Prelude.{◌≡◌, ◌∷◌, neg_ℤ, chars};
 ghost use Rattle.ic_input.specs.Date.{iso_number};
 ghost use Rattle.ic_input.specs.Number.{unsigned_number};
-ghost use Rattle.ic_input.specs.Typed.{amount_of_day, as_date, as_error, as_signed, as_word, error_at, error_in, error_word, is_text, sign_of, typed, typed_as, typed_from, typed_unsigned, word_of};
+ghost use Rattle.ic_input.specs.Typed.{amount_of_day, as_date, as_error, as_signed, as_word, boolean_word, error_at, error_in, error_word, is_text, sign_of, typed, typed_as, typed_from, typed_unsigned};
 
 use crate::code::NumberCode;
 use crate::convention::is_nothing;
 use crate::date::{iso_number, short_number};
 use crate::number::unsigned_number;
-use crate::word::find_word_among;
+use crate::word::{find_boolean, find_error};
 use ic_laws::scan::first_char;
-use ic_laws::{Amount, Error, WordKind};
+use ic_laws::{Amount, Error};
 use ic_tables::{Language, Locale};
 
 /// What a typed text is.
@@ -148,7 +147,7 @@ fn amount_of_day(n: u32) -> Amount
 fn kind_of_word<'t>(text: &'t str, language: &Language, english: &Language) -> Kind<'t>
     ensures { typed_as result ≡ as_word language.now english.now (chars text.entry.now) }
 {
-    match word_of(WordKind::Boolean, 2, text, language, english) {
+    match boolean_word(text, language, english) {
         Some(n) => Kind::Boolean(n == 0),
         None => kind_of_error(text, language, english),
     }
@@ -169,26 +168,26 @@ fn kind_of_error<'t>(text: &'t str, language: &Language, english: &Language) -> 
 fn error_of(text: &str, language: &Language, english: &Language) -> Option<Error>
     ensures { result ≡ error_in (error_word language.now english.now (chars text.now)) }
 {
-    error_at(word_of(WordKind::Error, 12, text, language, english)?)
+    error_at(error_word(text, language, english)?)
 }
 
-// The number of the word of a kind, which has so many, that agrees with the text: one of the language, or else an English
-// one.
-fn word_of(
-    kind: WordKind,
-    count: usize,
-    text: &str,
-    language: &Language,
-    english: &Language,
-) -> Option<usize>
-    requires local { count ≡ length (words_of language.now kind) }
-    requires beside { count ≡ length (words_of english.now kind) }
-    ensures { result ≡ word_of (words_of language.now kind) (words_of english.now kind)
-        (chars text.now) }
+// The number of the boolean's word that agrees with the text: one of the language, or else an English one.
+fn boolean_word(text: &str, language: &Language, english: &Language) -> Option<usize>
+    ensures { result ≡ boolean_word language.now english.now (chars text.now) }
 {
-    match find_word_among(language, kind, count, text) {
+    match find_boolean(language, text) {
         Some(n) => Some(n),
-        None => find_word_among(english, kind, count, text),
+        None => find_boolean(english, text),
+    }
+}
+
+// The number of the error value's word that agrees with the text: one of the language, or else an English one.
+fn error_word(text: &str, language: &Language, english: &Language) -> Option<usize>
+    ensures { result ≡ error_word language.now english.now (chars text.now) }
+{
+    match find_error(language, text) {
+        Some(n) => Some(n),
+        None => find_error(english, text),
     }
 }
 
