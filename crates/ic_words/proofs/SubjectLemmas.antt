@@ -1,6 +1,6 @@
--- The table of all commands, one subject after another.
-use Rattle.std.proofs.Common.{◌≡◌, ◌≢◌, ℕ, List, [], ◌∷◌, ◌++◌, map, Bool, true, false, ◌&&◌, ◌||◌, Option, Some, None, IsUtf8, bytes_eq, chars, codes, option_map, option_and_then, refl, ap, sym, ◌∙◌, inl, inr}
-use Rattle.std.specs.List.{AllByRecursion, list_all}
+-- The table of all commands, and the rows that each subject has in it.
+use Rattle.std.proofs.Common.{◌≡◌, ◌≢◌, ℕ, List, [], ◌∷◌, ◌++◌, map, Bool, true, false, ◌&&◌, ◌||◌, Option, Some, None, IsUtf8, bytes_eq, chars, codes, option_map, option_and_then, refl, rules, ap, sym, ◌∙◌, inl, inr}
+use Rattle.std.specs.List.{AllByRecursion, find, list_all}
 use Rattle.std.proofs.lemmas.Bool.{and_parts, cases_Bool, false_from_ne_true}
 use Rattle.std.proofs.lemmas.Slice.Eq.{bytes_eq-Decides}
 use Rattle.ic_laws.specs.Lines.{word_texts}
@@ -19,26 +19,7 @@ use Rattle.ic_machine.specs.subjects.Styles.{style_rows}
 use Rattle.ic_machine.specs.subjects.Tabs.{tab_rows}
 use Rattle.ic_machine.specs.subjects.Writing.{writing_rows}
 use Rattle.ic_words.specs.Words.{copies_values}
-use Rattle.ic_words.specs.subjects.Arrays.{arrays_meant, spill_put_said, value_put_said}
-use Rattle.ic_words.specs.subjects.Definitions.{definitions_meant}
-use Rattle.ic_words.specs.subjects.Extending.{extending_meant}
-use Rattle.ic_words.specs.subjects.Layout.{layout_meant}
-use Rattle.ic_words.specs.subjects.Notation.{notation_meant}
-use Rattle.ic_words.specs.subjects.Reading.{reading_meant}
-use Rattle.ic_words.specs.subjects.Sheets.{sheets_meant}
-use Rattle.ic_words.specs.subjects.Styles.{styles_meant}
-use Rattle.ic_words.specs.subjects.Tabs.{tabs_meant}
-use Rattle.ic_words.specs.subjects.Writing.{writing_meant}
-use Rattle.ic_words.specs.declared.command.arrays.Arrays as arrays
-use Rattle.ic_words.specs.declared.command.definitions.Definitions as definitions
-use Rattle.ic_words.specs.declared.command.extending.Extending as extending
-use Rattle.ic_words.specs.declared.command.layout.Layout as layout
-use Rattle.ic_words.specs.declared.command.notation.Notation as notation
-use Rattle.ic_words.specs.declared.command.reading.Reading as reading
-use Rattle.ic_words.specs.declared.command.sheets.Sheets as sheets
-use Rattle.ic_words.specs.declared.command.styles.Styles as styles
-use Rattle.ic_words.specs.declared.command.tabs.Tabs as tabs
-use Rattle.ic_words.specs.declared.command.writing.Writing as writing
+use Rattle.ic_words.specs.subjects.Arrays.{spill_put_said, value_put_said}
 use Rattle.ic_words.proofs.AsciiLemmas.{found_same, has_ascii_names, not_found}
 
 -- Where no word of a command is a value, the English words of the error values don't matter. ----
@@ -135,10 +116,6 @@ from_notation = map (row_in laws.OnNotation) notation_rows ++ from_writing
 abbrev pub from_definitions : List (Row laws.Command)
 from_definitions = map (row_in laws.OnDefinitions) definition_rows ++ from_notation
 
-by_rows : commands ≡ map (row_in laws.OnSheets) sheet_rows ++ from_definitions
-unfolding commands
-by_rows = refl
-
 all_known : known_rows commands ≡ true
 unfolding commands
 all_known = refl
@@ -180,129 +157,122 @@ module _ (english : List (List ℕ)) (words : List (List ℕ)) where
   pub spill_named : (name : List ℕ) → IsUtf8 name → name ≡ codes "put_spill" → option_map laws.OnArrays (spill_put_said english words) ≡ joined (named english commands (chars name) words)
   spill_named name u is = spill_row ∙ ap (λ n. joined (named english commands n words)) (sym is) ∙ sym (ap joined (found_same_named english name words u))
 
--- The command of the first subject that has the name ----
-
-abbrev first_of : {A : Type 0} → Option A → Option A → Option A
-first_of None later = later
-first_of (Some x) later = Some x
+-- The command of the one subject that has the name, in whatever order the subjects are asked ----
 
 pub unnamed : {C : Type 0} (rows : List (Row C)) (name : List ℕ) (words : List (List ℕ)) → AllByRecursion (λ (row : Row C). name ≢ row.name) rows → None ≡ named [] rows name words
 unnamed {C} rows name words h = rw (not_found (λ (row : Row C). row.name) rows name h) refl
 
-module _ (name : List ℕ) (words : List (List ℕ)) where
-  one_after_another : (later rows : List (Row laws.Command)) → named [] (rows ++ later) name words ≡ first_of (named [] rows name words) (named [] later name words)
-  one_after_another later [] = refl
-  one_after_another later (row ∷ rows) =
-      elim (cases_Bool (bytes_eq row.name name)) [ inl e ↦ rw e refl | inr e ↦ rw e (one_after_another later rows) ]
+-- the first row of the whole table that has the name of this row of a subject is this row
+abbrev IsFirst : {D : Type 0} → (D → laws.Command) → Row D → Type 0
+IsFirst subject row = find (λ (other : Row laws.Command). bytes_eq other.name row.name) commands ≡ Some (row_in subject row)
 
-  rows_among : {D : Type 0} (subject : D → laws.Command) (rows : List (Row D)) → named [] (map (row_in subject) rows) name words ≡ option_map (option_map subject) (named [] rows name words)
-  rows_among subject [] = refl
-  rows_among subject (row ∷ rows) =
+-- that holds of each row of a subject, since no two commands have the same name
+pub record AreFirst {D : Type 0} (subject : D → laws.Command) (rows : List (Row D)) : Type 0 where
+  pub each : AllByRecursion (IsFirst subject) rows
+
+pub sheets_first : AreFirst laws.OnSheets sheet_rows
+unfolding commands
+sheets_first = record { each = search rules }
+
+pub definitions_first : AreFirst laws.OnDefinitions definition_rows
+unfolding commands
+definitions_first = record { each = search rules }
+
+pub notation_first : AreFirst laws.OnNotation notation_rows
+unfolding commands
+notation_first = record { each = search rules }
+
+pub writing_first : AreFirst laws.OnWriting writing_rows
+unfolding commands
+writing_first = record { each = search rules }
+
+pub reading_first : AreFirst laws.OnReading reading_rows
+unfolding commands
+reading_first = record { each = search rules }
+
+pub extending_first : AreFirst laws.OnExtending extending_rows
+unfolding commands
+extending_first = record { each = search rules }
+
+pub styles_first : AreFirst laws.OnStyles style_rows
+unfolding commands
+styles_first = record { each = search rules }
+
+pub layout_first : AreFirst laws.OnLayout layout_rows
+unfolding commands
+layout_first = record { each = search rules }
+
+pub tabs_first : AreFirst laws.OnTabs tab_rows
+unfolding commands
+tabs_first = record { each = search rules }
+
+pub arrays_first : AreFirst laws.OnArrays array_rows
+unfolding commands
+arrays_first = record { each = search rules }
+
+-- a subject that lacks the name
+pub record Lacks {D : Type 0} (rows : List (Row D)) (name : List ℕ) (words : List (List ℕ)) : Type 0 where
+  pub none : named [] rows name words ≡ None
+
+-- so does one that answers nothing
+pub lacks : {C D : Type 0} {rows : List (Row D)} {name : List ℕ} {words : List (List ℕ)} (meant : C → D) {made : Option (Option C)}
+    → made ≡ None → option_map (option_map meant) made ≡ named [] rows name words → Lacks rows name words
+lacks meant none is = record { none = sym is ∙ ap (option_map (option_map meant)) none }
+
+module _ (name : List ℕ) (words : List (List ℕ)) where
+  by_row : {D : Type 0} (subject : D → laws.Command) (row : Row D) → IsFirst subject row → bytes_eq row.name name ≡ true
+      → named [] commands name words ≡ Some (option_map subject (option_map row.command (words_said [] row.words words)))
+  by_row subject row first is =
+      let same = sym ((bytes_eq-Decides row.name name).0 is) in
+      let at : find (λ (other : Row laws.Command). bytes_eq other.name name) commands ≡ Some (row_in subject row)
+      = ap (λ n. find (λ (other : Row laws.Command). bytes_eq other.name n) commands) same ∙ first in
+      ap (option_map (λ (other : Row laws.Command). option_map other.command (words_said [] other.words words))) at
+      ∙ ap Some (map_map row.command subject (words_said [] row.words words))
+
+  by_rows : {D : Type 0} (subject : D → laws.Command) (rows : List (Row D)) → AllByRecursion (IsFirst subject) rows → (said : Option D)
+      → named [] rows name words ≡ Some said → named [] commands name words ≡ Some (option_map subject said)
+  by_rows subject [] first said = λ is. cc
+  by_rows subject (row ∷ rows) first said =
       elim (cases_Bool (bytes_eq row.name name)) [
-        | inl e ↦ rw e (ap Some (map_map row.command subject (words_said [] row.words words)))
-        | inr e ↦ rw e (rows_among subject rows)
+        | inl e ↦ rw e (λ is. by_row subject row first.0 e ∙ ap (option_map (option_map subject)) is)
+        | inr e ↦ rw e (by_rows subject rows first.1 said)
       ]
 
-  module _ {C D : Type 0} (subject : D → laws.Command) (rows : List (Row D)) (meant : C → D) (made : Option (Option C)) (is : option_map (option_map meant) made ≡ named [] rows name words) (later : List (Row laws.Command)) where
-    by_subject : named [] (map (row_in subject) rows ++ later) name words ≡ first_of (option_map (option_map subject) (option_map (option_map meant) made)) (named [] later name words)
-    by_subject = one_after_another later (map (row_in subject) rows) ∙ ap (λ o. first_of o (named [] later name words)) (rows_among subject rows ∙ ap (option_map (option_map subject)) (sym is))
+  -- the command of a subject that has the name
+  pub found : {C D : Type 0} {subject : D → laws.Command} {rows : List (Row D)} → AreFirst subject rows → (meant : C → D)
+      → {made : Option (Option C)} {command : Option C} → made ≡ Some command → option_map (option_map meant) made ≡ named [] rows name words
+      → option_map subject (option_map meant command) ≡ joined (named [] commands name words)
+  found {subject = subject} {rows} first meant {command = command} some is =
+      sym (ap joined (by_rows subject rows first.each (option_map meant command) (sym is ∙ ap (option_map (option_map meant)) some)))
 
-    past : made ≡ None → named [] (map (row_in subject) rows ++ later) name words ≡ named [] later name words
-    past none = by_subject ∙ ap (λ o. first_of (option_map (option_map subject) (option_map (option_map meant) o)) (named [] later name words)) none
+  beside : {D : Type 0} (subject : D → laws.Command) (rows : List (Row D)) (later : List (Row laws.Command)) → named [] rows name words ≡ None
+      → named [] later name words ≡ None → named [] (map (row_in subject) rows ++ later) name words ≡ None
+  beside subject [] later = λ lacking none. none
+  beside subject (row ∷ rows) later =
+      elim (cases_Bool (bytes_eq row.name name)) [ inl e ↦ rw e (λ lacking none. cc) | inr e ↦ rw e (beside subject rows later) ]
 
-    found : (inner : Option C) → made ≡ Some inner → option_map subject (option_map meant inner) ≡ joined (named [] (map (row_in subject) rows ++ later) name words)
-    found inner some =
-        sym (ap joined (by_subject ∙ ap (λ o. first_of (option_map (option_map subject) (option_map (option_map meant) o)) (named [] later name words)) some))
-
--- the subjects, each by the rows from it on
-pub data Subject : Type 0 where
-  Sheets : Subject
-  Definitions : Subject
-  Notation : Subject
-  Writing : Subject
-  Reading : Subject
-  Extending : Subject
-  Styles : Subject
-  Layout : Subject
-  Tabs : Subject
-  Arrays : Subject
-
-abbrev rows_from : Subject → List (Row laws.Command)
-rows_from Sheets = map (row_in laws.OnSheets) sheet_rows ++ from_definitions
-rows_from Definitions = from_definitions
-rows_from Notation = from_notation
-rows_from Writing = from_writing
-rows_from Reading = from_reading
-rows_from Extending = from_extending
-rows_from Styles = from_styles
-rows_from Layout = from_layout
-rows_from Tabs = from_tabs
-rows_from Arrays = from_arrays
-
--- what is by the rows from a subject on
-pub record IsFrom (subject : Subject) (name : List ℕ) (words : List (List ℕ)) (answer : Option laws.Command) : Type 0 where
-  pub named_so : answer ≡ joined (named [] (rows_from subject) name words)
-
-pub from_first : (name : List ℕ) (words : List (List ℕ)) (answer : Option laws.Command) → IsFrom Sheets name words answer → answer ≡ joined (named [] commands name words)
-from_first name words answer h = h.named_so ∙ ap (λ rows. joined (named [] rows name words)) (sym by_rows)
-
-module _ {name : List ℕ} {words : List (List ℕ)} where
-  pub past_sheets : {answer : Option laws.Command} {made : Option (Option sheets.Sheets)} → made ≡ None → option_map (option_map sheets_meant) made ≡ named [] sheet_rows name words → IsFrom Definitions name words answer → IsFrom Sheets name words answer
-  past_sheets {made = made} none is h = record { named_so = h.named_so ∙ ap joined (sym (past name words laws.OnSheets sheet_rows sheets_meant made is from_definitions none)) }
-
-  pub found_sheets : {made : Option (Option sheets.Sheets)} {inner : Option sheets.Sheets} → made ≡ Some inner → option_map (option_map sheets_meant) made ≡ named [] sheet_rows name words → IsFrom Sheets name words (option_map laws.OnSheets (option_map sheets_meant inner))
-  found_sheets {made} {inner} some is = record { named_so = found name words laws.OnSheets sheet_rows sheets_meant made is from_definitions inner some }
-
-  pub past_definitions : {answer : Option laws.Command} {made : Option (Option definitions.Definitions)} → made ≡ None → option_map (option_map definitions_meant) made ≡ named [] definition_rows name words → IsFrom Notation name words answer → IsFrom Definitions name words answer
-  past_definitions {made = made} none is h = record { named_so = h.named_so ∙ ap joined (sym (past name words laws.OnDefinitions definition_rows definitions_meant made is from_notation none)) }
-
-  pub found_definitions : {made : Option (Option definitions.Definitions)} {inner : Option definitions.Definitions} → made ≡ Some inner → option_map (option_map definitions_meant) made ≡ named [] definition_rows name words → IsFrom Definitions name words (option_map laws.OnDefinitions (option_map definitions_meant inner))
-  found_definitions {made} {inner} some is = record { named_so = found name words laws.OnDefinitions definition_rows definitions_meant made is from_notation inner some }
-
-  pub past_notation : {answer : Option laws.Command} {made : Option (Option notation.Notation)} → made ≡ None → option_map (option_map notation_meant) made ≡ named [] notation_rows name words → IsFrom Writing name words answer → IsFrom Notation name words answer
-  past_notation {made = made} none is h = record { named_so = h.named_so ∙ ap joined (sym (past name words laws.OnNotation notation_rows notation_meant made is from_writing none)) }
-
-  pub found_notation : {made : Option (Option notation.Notation)} {inner : Option notation.Notation} → made ≡ Some inner → option_map (option_map notation_meant) made ≡ named [] notation_rows name words → IsFrom Notation name words (option_map laws.OnNotation (option_map notation_meant inner))
-  found_notation {made} {inner} some is = record { named_so = found name words laws.OnNotation notation_rows notation_meant made is from_writing inner some }
-
-  pub past_writing : {answer : Option laws.Command} {made : Option (Option writing.Writing)} → made ≡ None → option_map (option_map writing_meant) made ≡ named [] writing_rows name words → IsFrom Reading name words answer → IsFrom Writing name words answer
-  past_writing {made = made} none is h = record { named_so = h.named_so ∙ ap joined (sym (past name words laws.OnWriting writing_rows writing_meant made is from_reading none)) }
-
-  pub found_writing : {made : Option (Option writing.Writing)} {inner : Option writing.Writing} → made ≡ Some inner → option_map (option_map writing_meant) made ≡ named [] writing_rows name words → IsFrom Writing name words (option_map laws.OnWriting (option_map writing_meant inner))
-  found_writing {made} {inner} some is = record { named_so = found name words laws.OnWriting writing_rows writing_meant made is from_reading inner some }
-
-  pub past_reading : {answer : Option laws.Command} {made : Option (Option reading.Reading)} → made ≡ None → option_map (option_map reading_meant) made ≡ named [] reading_rows name words → IsFrom Extending name words answer → IsFrom Reading name words answer
-  past_reading {made = made} none is h = record { named_so = h.named_so ∙ ap joined (sym (past name words laws.OnReading reading_rows reading_meant made is from_extending none)) }
-
-  pub found_reading : {made : Option (Option reading.Reading)} {inner : Option reading.Reading} → made ≡ Some inner → option_map (option_map reading_meant) made ≡ named [] reading_rows name words → IsFrom Reading name words (option_map laws.OnReading (option_map reading_meant inner))
-  found_reading {made} {inner} some is = record { named_so = found name words laws.OnReading reading_rows reading_meant made is from_extending inner some }
-
-  pub past_extending : {answer : Option laws.Command} {made : Option (Option extending.Extending)} → made ≡ None → option_map (option_map extending_meant) made ≡ named [] extending_rows name words → IsFrom Styles name words answer → IsFrom Extending name words answer
-  past_extending {made = made} none is h = record { named_so = h.named_so ∙ ap joined (sym (past name words laws.OnExtending extending_rows extending_meant made is from_styles none)) }
-
-  pub found_extending : {made : Option (Option extending.Extending)} {inner : Option extending.Extending} → made ≡ Some inner → option_map (option_map extending_meant) made ≡ named [] extending_rows name words → IsFrom Extending name words (option_map laws.OnExtending (option_map extending_meant inner))
-  found_extending {made} {inner} some is = record { named_so = found name words laws.OnExtending extending_rows extending_meant made is from_styles inner some }
-
-  pub past_styles : {answer : Option laws.Command} {made : Option (Option styles.Styles)} → made ≡ None → option_map (option_map styles_meant) made ≡ named [] style_rows name words → IsFrom Layout name words answer → IsFrom Styles name words answer
-  past_styles {made = made} none is h = record { named_so = h.named_so ∙ ap joined (sym (past name words laws.OnStyles style_rows styles_meant made is from_layout none)) }
-
-  pub found_styles : {made : Option (Option styles.Styles)} {inner : Option styles.Styles} → made ≡ Some inner → option_map (option_map styles_meant) made ≡ named [] style_rows name words → IsFrom Styles name words (option_map laws.OnStyles (option_map styles_meant inner))
-  found_styles {made} {inner} some is = record { named_so = found name words laws.OnStyles style_rows styles_meant made is from_layout inner some }
-
-  pub past_layout : {answer : Option laws.Command} {made : Option (Option layout.Layout)} → made ≡ None → option_map (option_map layout_meant) made ≡ named [] layout_rows name words → IsFrom Tabs name words answer → IsFrom Layout name words answer
-  past_layout {made = made} none is h = record { named_so = h.named_so ∙ ap joined (sym (past name words laws.OnLayout layout_rows layout_meant made is from_tabs none)) }
-
-  pub found_layout : {made : Option (Option layout.Layout)} {inner : Option layout.Layout} → made ≡ Some inner → option_map (option_map layout_meant) made ≡ named [] layout_rows name words → IsFrom Layout name words (option_map laws.OnLayout (option_map layout_meant inner))
-  found_layout {made} {inner} some is = record { named_so = found name words laws.OnLayout layout_rows layout_meant made is from_tabs inner some }
-
-  pub past_tabs : {answer : Option laws.Command} {made : Option (Option tabs.Tabs)} → made ≡ None → option_map (option_map tabs_meant) made ≡ named [] tab_rows name words → IsFrom Arrays name words answer → IsFrom Tabs name words answer
-  past_tabs {made = made} none is h = record { named_so = h.named_so ∙ ap joined (sym (past name words laws.OnTabs tab_rows tabs_meant made is from_arrays none)) }
-
-  pub found_tabs : {made : Option (Option tabs.Tabs)} {inner : Option tabs.Tabs} → made ≡ Some inner → option_map (option_map tabs_meant) made ≡ named [] tab_rows name words → IsFrom Tabs name words (option_map laws.OnTabs (option_map tabs_meant inner))
-  found_tabs {made} {inner} some is = record { named_so = found name words laws.OnTabs tab_rows tabs_meant made is from_arrays inner some }
-
-  pub past_arrays : {made : Option (Option arrays.Arrays)} → made ≡ None → option_map (option_map arrays_meant) made ≡ named [] array_rows name words → IsFrom Arrays name words None
-  past_arrays {made} none is = record { named_so = sym (ap joined (past name words laws.OnArrays array_rows arrays_meant made is [] none)) }
-
-  pub found_arrays : {made : Option (Option arrays.Arrays)} {inner : Option arrays.Arrays} → made ≡ Some inner → option_map (option_map arrays_meant) made ≡ named [] array_rows name words → IsFrom Arrays name words (option_map laws.OnArrays (option_map arrays_meant inner))
-  found_arrays {made} {inner} some is = record { named_so = found name words laws.OnArrays array_rows arrays_meant made is [] inner some }
+  -- where each subject lacks the name, the whole table does
+  pub none_named : Lacks sheet_rows name words
+      → Lacks definition_rows name words
+      → Lacks notation_rows name words
+      → Lacks writing_rows name words
+      → Lacks reading_rows name words
+      → Lacks extending_rows name words
+      → Lacks style_rows name words
+      → Lacks layout_rows name words
+      → Lacks tab_rows name words
+      → Lacks array_rows name words
+      → None ≡ joined (named [] commands name words)
+  unfolding commands
+  none_named sheets definitions notation writing reading extending styles layout tabs arrays =
+      sym (ap joined (
+      beside laws.OnSheets sheet_rows from_definitions sheets.none
+      (beside laws.OnDefinitions definition_rows from_notation definitions.none
+      (beside laws.OnNotation notation_rows from_writing notation.none
+      (beside laws.OnWriting writing_rows from_reading writing.none
+      (beside laws.OnReading reading_rows from_extending reading.none
+      (beside laws.OnExtending extending_rows from_styles extending.none
+      (beside laws.OnStyles style_rows from_layout styles.none
+      (beside laws.OnLayout layout_rows from_tabs layout.none
+      (beside laws.OnTabs tab_rows from_arrays tabs.none
+      (beside laws.OnArrays array_rows [] arrays.none refl)))))))))))

@@ -89,7 +89,8 @@ fn command_named<'l>(
     }
 }
 
-/// The command of this name, where its words aren't values: that of the one subject that has the name.
+/// The command of this name, where its words aren't values: that of the one subject that has the name. A subject compares
+/// the name with each of its own, so those that most lines are of come first.
 fn plain_command<'l>(
     alloc: Global,
     name: &str,
@@ -100,24 +101,6 @@ fn plain_command<'l>(
         ≡ joined (named [] commands name.now (words_left rest.entry))) }
     ensures memory { OnErr result (HaveEscape (words_left rest.entry)) }
 {
-    if let Some(sheets) = sheets_in(alloc, name, rest)? {
-        return match sheets {
-            Some(command) => Ok(Some(Command::Sheets(command))),
-            None => Ok(None),
-        };
-    }
-    if let Some(definitions) = definitions_in(alloc, name, rest)? {
-        return match definitions {
-            Some(command) => Ok(Some(Command::Definitions(command))),
-            None => Ok(None),
-        };
-    }
-    if let Some(notation) = notation_in(alloc, name, rest)? {
-        return match notation {
-            Some(command) => Ok(Some(Command::Notation(command))),
-            None => Ok(None),
-        };
-    }
     if let Some(writing) = writing_in(alloc, name, rest)? {
         return match writing {
             Some(command) => Ok(Some(Command::Writing(command))),
@@ -127,6 +110,18 @@ fn plain_command<'l>(
     if let Some(reading) = reading_in(alloc, name, rest)? {
         return match reading {
             Some(command) => Ok(Some(Command::Reading(command))),
+            None => Ok(None),
+        };
+    }
+    if let Some(arrays) = arrays_in(alloc, name, rest)? {
+        return match arrays {
+            Some(command) => Ok(Some(Command::Arrays(command))),
+            None => Ok(None),
+        };
+    }
+    if let Some(definitions) = definitions_in(alloc, name, rest)? {
+        return match definitions {
+            Some(command) => Ok(Some(Command::Definitions(command))),
             None => Ok(None),
         };
     }
@@ -148,15 +143,21 @@ fn plain_command<'l>(
             None => Ok(None),
         };
     }
+    if let Some(sheets) = sheets_in(alloc, name, rest)? {
+        return match sheets {
+            Some(command) => Ok(Some(Command::Sheets(command))),
+            None => Ok(None),
+        };
+    }
     if let Some(tabs) = tabs_in(alloc, name, rest)? {
         return match tabs {
             Some(command) => Ok(Some(Command::Tabs(command))),
             None => Ok(None),
         };
     }
-    if let Some(arrays) = arrays_in(alloc, name, rest)? {
-        return match arrays {
-            Some(command) => Ok(Some(Command::Arrays(command))),
+    if let Some(notation) = notation_in(alloc, name, rest)? {
+        return match notation {
+            Some(command) => Ok(Some(Command::Notation(command))),
             None => Ok(None),
         };
     }
