@@ -21,6 +21,7 @@ use ic_parts::contents::Contents;
 use ic_parts::lists::Lists;
 use ic_parts::scene::BookScene;
 use ic_parts::sheet_names::{NumberedName, base_name, put_name};
+use ic_parts::taken_numbers::TakenNumbers;
 use ic_sheets::Sheets;
 use ic_tables::{Language, Tables};
 use jiff::Timestamp;
@@ -118,6 +119,7 @@ impl<'a> Model<'a> {
             names: NameIndex {
                 sheets: ids,
                 names: BTreeMap::new(alloc),
+                numbers: TakenNumbers::new(alloc),
             },
             lists,
             about,

@@ -12,7 +12,7 @@ ghost use Rattle.ic_parts.specs.Whole.{whole_of};
 
 use crate::{BookError, Model};
 use ic_laws::OutOfMemory;
-use ic_parts::sheet_names::{NumberedName, base_name, free_name};
+use ic_parts::sheet_names::{NumberedName, base_name, free_name, seen_free_name};
 
 impl<'a> Model<'a> {
     /// Adds a sheet at the end, as `add_sheet` does, and answers its name and its index, from 0. The name is the word for a
@@ -39,14 +39,28 @@ impl<'a> Model<'a> {
         if self.get_new_sheet_id().is_none() {
             return Err(BookError::IdsUsedUp);
         }
-        let name = self.new_name()?;
         let index = self.contents.sheets.len() as u32;
+        let name = self.new_name()?;
         self.append_sheet(name.as_str())?;
         Ok((name, index))
     }
 
     /// The name that a new sheet gets.
-    pub(crate) fn new_name(&self) -> Result<String, OutOfMemory>
+    fn new_name(&mut self) -> Result<String, OutOfMemory>
+        ensures named { IfOk result (λ name. chars (string_bytes name)
+            ≡ new_sheet_name (whole_of self.old.book)) }
+        ensures same { self.new ≡ self.old }
+    {
+        // What always holds of a model is known from here on.
+        let _ = &self.contents;
+        let base = NumberedName::Word(base_name(&self.notation.language().code));
+        let sheets = &self.contents.sheets;
+        let taken = &mut self.names.numbers;
+        free_name(self.alloc, sheets, &self.names.sheets, taken, &base)
+    }
+
+    /// The same, and notes nothing.
+    pub(crate) fn seen_new_name(&self) -> Result<String, OutOfMemory>
         ensures { IfOk result (λ name. chars (string_bytes name)
             ≡ new_sheet_name (whole_of self.now.book)) }
     {
@@ -54,6 +68,7 @@ impl<'a> Model<'a> {
         let _ = &self.contents;
         let base = NumberedName::Word(base_name(&self.notation.language().code));
         let sheets = &self.contents.sheets;
-        free_name(self.alloc, sheets, &self.names.sheets, &base)
+        let taken = &self.names.numbers;
+        seen_free_name(self.alloc, sheets, &self.names.sheets, taken, &base)
     }
 }

@@ -295,6 +295,7 @@ impl<'a> Model<'a> {
         self.contents
             .sheets
             .rename_sheet(&mut self.names.sheets, index, new_name, &definitions)?;
+        self.names.numbers.forget();
         self.contents.definitions.apply(bodies);
         Ok(())
     }
@@ -325,6 +326,7 @@ impl<'a> Model<'a> {
         self.contents
             .sheets
             .delete_sheet(&mut self.names.sheets, index, &definitions)?;
+        self.names.numbers.forget();
         self.contents.definitions.apply(bodies);
         Ok(())
     }

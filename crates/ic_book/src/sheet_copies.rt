@@ -64,18 +64,20 @@ impl<'a> Model<'a> {
     }
 
     /// The name that a copy of the sheet at an index gets.
-    fn name_of_copy(&self, index: usize) -> Result<String, OutOfMemory>
-        requires { index < length self.now.book.sheets }
-        ensures { IfOk result (λ name. (source : Sheet)
-            → slice_get self.now.book.sheets index ≡ Some source
-            → chars (string_bytes name) ≡ name_of_copy (whole_of self.now.book) source.name) }
+    fn name_of_copy(&mut self, index: usize) -> Result<String, OutOfMemory>
+        requires { index < length self.old.book.sheets }
+        ensures named { IfOk result (λ name. (source : Sheet)
+            → slice_get self.old.book.sheets index ≡ Some source
+            → chars (string_bytes name) ≡ name_of_copy (whole_of self.old.book) source.name) }
+        ensures same { self.new ≡ self.old }
     {
         // What always holds of a model is known from here on.
         let _ = &self.contents;
         let source = self.contents.sheets.as_slice()[index].as_ref();
         let name = NumberedName::Copy(source.name.as_str());
         let sheets = &self.contents.sheets;
-        free_name(self.alloc, sheets, &self.names.sheets, &name)
+        let taken = &mut self.names.numbers;
+        free_name(self.alloc, sheets, &self.names.sheets, taken, &name)
     }
 
     /// Puts a copy of the sheet at an index in, with this id, which is the fresh one, and this name.

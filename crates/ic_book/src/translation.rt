@@ -60,7 +60,7 @@ impl<'a> Model<'a> {
         ensures { IfOk result (λ name. chars (string_bytes name)
             ≡ new_sheet_name (whole_of self.now.book)) }
     {
-        self.new_name()
+        self.seen_new_name()
     }
 
     /// What `set_user_input` would type with these words; None exactly where it would be refused. Only memory can be missing.

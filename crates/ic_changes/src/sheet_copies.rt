@@ -121,6 +121,7 @@ fn add_copies(
     ensures sheets { OnOk result (contents.new.sheets ≡ contents.old.sheets) }
     ensures err { OnErr result (contents.new ≡ contents.old) }
     ensures indexed { IsIndexed names.new contents.new.sheets contents.new.definitions }
+    ensures numbers { names.new.numbers ≡ names.old.numbers }
 {
     let copied = NamedDefinitions {
         definitions: &copies,

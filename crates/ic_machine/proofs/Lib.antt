@@ -53,7 +53,7 @@ pub mod PlacedLemmas
 mod PlainEnds
 pub mod ReaderLemmas
 pub mod RetypedLemmas
-pub mod SameLemmas
+mod SameLemmas
 mod SameSteps
 pub mod SceneLemmas
 pub mod SeenLemmas

@@ -46,7 +46,7 @@ entry_bare pool place (FormulaContent index value style) = refl
 entry_bare pool place (AnchorContent index area kind value style) = refl
 entry_bare pool place (SpillContent anchor value style) = refl
 
-pub cells_bare : (pool : List Formula) (entries : List Entry) → core_cells pool (map bare entries) ≡ core_cells pool entries
+cells_bare : (pool : List Formula) (entries : List Entry) → core_cells pool (map bare entries) ≡ core_cells pool entries
 cells_bare pool [] = refl
 cells_bare pool (e ∷ es) = ap₂ (λ (x y : core.Cells). x ++ y) (entry_bare pool e.0 e.1) (cells_bare pool es)
 

@@ -19,7 +19,7 @@ use Rattle.ic_sheets.specs.Sheet.{Sheet, cells_of, empty_grid, kept_pool, plain_
 use Rattle.ic_parts.specs.Book.{Book, core_of, scene_in}
 use Rattle.ic_parts.specs.Change.{with_added_definition, with_added_sheet, with_inserted_sheet, with_kept_pools, with_removed_definition, with_removed_sheet, with_renamed_sheet}
 use Rattle.ic_sheets.proofs.PoolLemmas.{sheet_cores-kept}
-pub use Rattle.ic_machine.proofs.CoreLemmas.{moved-map, core_of-moved}
+pub use Rattle.ic_machine.proofs.CoreLemmas.{moved-map}
 
 -- a change of the sheets or the definitions of a book, over which all formulas are kept as these notations say
 abbrev pub changed_in : Notations → (Book → Book) → Book → Book

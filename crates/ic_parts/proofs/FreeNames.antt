@@ -1,12 +1,10 @@
 -- The least number of a name that no sheet has.
-use Rattle.std.proofs.Common.{◌≡◌, ℕ, zero, suc, ◌+◌, ◌<◌, List, length, map, Bool, true, false, not, Some, None, refl, sym, ap, subst, ◌∙◌, arith, inl, inr}
-use Rattle.std.proofs.lemmas.Bool.{cases_Bool}
-use Rattle.std.proofs.lemmas.List.{length-map}
+use Rattle.std.proofs.Common.{◌≡◌, ℕ, zero, suc, ◌+◌, ◌<◌, ◌≤◌, min, List, length, Bool, true, false, not, Some, None, Result, Ok, Err, IfOk, OnOk, refl, sym, ap, subst, ◌∙◌, arith, inl, inr}
+use Rattle.std.proofs.lemmas.Bool.{cases_Bool, cases_lt}
 use Rattle.std.specs.List.{find, list_any, range_with_len}
 use Rattle.std.specs.Prelude.{unwrap_or}
 use Rattle.ic_laws.specs.Name.{agrees}
-use Rattle.ic_sheets.specs.declared.sheet.Sheet.{Sheet as HeldSheet}
-use Rattle.ic_parts.specs.SheetNames.{free_among}
+use Rattle.ic_parts.specs.SheetNames.{AreTaken, HasPassed, free_among}
 
 module _ (p : ℕ → Bool) where
   -- none of these numbers passes, nor does the next one
@@ -30,40 +28,46 @@ module _ (taken : List (List ℕ)) (name : ℕ → List ℕ) where
   abbrev is_free : ℕ → Bool
   is_free n = not (list_any (agrees (name n)) taken)
 
-  -- all names with a number up to this one are taken
-  abbrev pub AreTaken : ℕ → Type 0
-  AreTaken k = find is_free (range_with_len 1 k) ≡ None
+  none_free : (k : ℕ) → AreTaken taken name k → find is_free (range_with_len 1 k) ≡ None
+  none_free zero all = refl
+  none_free (suc k) all = none_more is_free 1 k (none_free k (λ n less. all n (omega (arith, less)))) (subst (λ n. is_free n ≡ false) (omega arith) (ap not (all k (omega arith))))
 
-  pub taken_too : (k : ℕ) → AreTaken k → list_any (agrees (name (k + 1))) taken ≡ true → AreTaken (k + 1)
-  taken_too k e t = subst AreTaken {x = suc k} {y = k + 1} (omega arith) (none_more is_free 1 k e (subst (λ n. is_free n ≡ false) (omega arith) (ap not t)))
+  pub taken_too : (k : ℕ) → AreTaken taken name k → list_any (agrees (name (k + 1))) taken ≡ true → AreTaken taken name (k + 1)
+  taken_too k all e = λ n less.
+      elim (cases_lt n k) [
+        | inl before ↦ all n before
+        | inr after ↦ let same : n ≡ k = omega (arith, less, after) in subst (λ m. list_any (agrees (name (m + 1))) taken ≡ true) (sym same) e
+      ]
 
-  pub free_is : (k : ℕ) → AreTaken k → list_any (agrees (name (k + 1))) taken ≡ false → k < length taken → free_among taken name ≡ k + 1
-  free_is k e t less =
-      ap (λ o. unwrap_or o (suc (length taken))) (first_next is_free 1 k (suc (length taken)) e (subst (λ n. is_free n ≡ true) (omega arith) (ap not t)) (omega (arith, less))) ∙ omega arith
+  free_is : (k : ℕ) → AreTaken taken name k → list_any (agrees (name (k + 1))) taken ≡ false → k < length taken → free_among taken name ≡ k + 1
+  free_is k all e less =
+      ap (λ o. unwrap_or o (suc (length taken))) (first_next is_free 1 k (suc (length taken)) (none_free k all) (subst (λ n. is_free n ≡ true) (omega arith) (ap not e)) (omega (arith, less))) ∙ omega arith
 
   -- the last one
-  pub free_last : AreTaken (length taken) → free_among taken name ≡ length taken + 1
-  free_last e = elim (cases_Bool (is_free (1 + length taken))) [
-    | inl t ↦ ap (λ o. unwrap_or o (suc (length taken))) (first_next is_free 1 (length taken) (suc (length taken)) e t (omega arith)) ∙ omega arith
-    | inr f ↦ ap (λ o. unwrap_or o (suc (length taken))) (none_more is_free 1 (length taken) e f) ∙ omega arith
+  free_last : AreTaken taken name (length taken) → free_among taken name ≡ length taken + 1
+  free_last all = elim (cases_Bool (is_free (1 + length taken))) [
+    | inl t ↦ ap (λ o. unwrap_or o (suc (length taken))) (first_next is_free 1 (length taken) (suc (length taken)) (none_free (length taken) all) t (omega arith)) ∙ omega arith
+    | inr f ↦ ap (λ o. unwrap_or o (suc (length taken))) (none_more is_free 1 (length taken) (none_free (length taken) all) f) ∙ omega arith
   ]
 
--- the names of the sheets of a model
-module _ (ws : List HeldSheet) (name : ℕ → List ℕ) where
-  abbrev pub names : List (List ℕ)
-  names = map (λ (s : HeldSheet). s.name) ws
+  -- the number after those that are passed is the least free one, where as many might be as there are names
+  pub passed_free : (most passed : ℕ) → most ≡ length taken → HasPassed taken name most passed → free_among taken name ≡ passed + 1
+  passed_free most passed all h =
+      let within : passed ≤ length taken = subst (λ m. passed ≤ m) all h.within in
+      elim (cases_lt passed (length taken)) [
+        | inl less ↦ free_is passed h.taken (h.next (subst (λ m. passed < m) (sym all) less)) less
+        | inr end ↦ let last : passed ≡ length taken = omega (arith, within, end) in ap (λ k. free_among taken name) last ∙ free_last (subst (AreTaken taken name) last h.taken) ∙ ap (λ k. k + 1) (sym last)
+      ]
 
-  pub count_is : length (map (λ (s : HeldSheet). s.name) ws) ≡ length ws
-  count_is = length-map ws (λ (s : HeldSheet). s.name)
+  -- what stops before its limit stops there under a higher one
+  pub passed_soon : (count soon most passed : ℕ) → soon ≡ min count most → HasPassed taken name soon passed → passed < most → HasPassed taken name count passed
+  passed_soon count soon most passed is h less = record {
+    taken = h.taken;
+    within = let below : passed ≤ soon = h.within in omega (arith, is, below);
+    next = λ before. h.next (omega (arith, is, before, less));
+  }
 
-  pub found_free : (text : List ℕ) (k : ℕ) → AreTaken names name k → text ≡ name (k + 1) → list_any (agrees text) names ≡ false → k < length ws → text ≡ name (free_among names name)
-  found_free text k e is free less =
-      is ∙ ap name (sym (free_is names name k e (subst (λ t. list_any (agrees t) names ≡ false) is free) (subst (λ m. k < m) (sym count_is) less)))
-
-  pub next_taken : (text : List ℕ) (k : ℕ) → AreTaken names name k → text ≡ name (k + 1) → list_any (agrees text) names ≡ true → AreTaken names name (k + 1)
-  next_taken text k e is free = taken_too names name k e (subst (λ t. list_any (agrees t) names ≡ true) is free)
-
-  pub last_free : (text : List ℕ) (count : ℕ) → count ≡ length ws → AreTaken names name count → text ≡ name (count + 1) → text ≡ name (free_among names name)
-  last_free text count same e is =
-      let all : count ≡ length names = same ∙ sym count_is in
-      is ∙ ap (λ k. name (k + 1)) all ∙ ap name (sym (free_last names name (subst (AreTaken names name) all e)))
+  -- so is the name that is written with it
+  pub passed_named : {E : Type 0} (r : Result ℕ E) (most : ℕ) (text : List ℕ) → most ≡ length taken → IfOk r (HasPassed taken name most) → IfOk r (λ passed. text ≡ name (passed + 1)) → OnOk r (text ≡ name (free_among taken name))
+  passed_named (Ok passed) most text all h is = is ∙ ap name (sym (passed_free most passed all h))
+  passed_named (Err e) most text all h is = tt

@@ -39,6 +39,7 @@ pub mod SiteLemmas
 pub mod StartLemmas
 pub mod StyleLemmas
 pub mod StyleSetLemmas
+pub mod TakenLemmas
 pub mod TargetLemmas
 pub mod TypedLemmas
 pub mod UnreadLemmas

@@ -1,15 +1,23 @@
--- What finds sheets and definitions by their names still does, where neither names nor keys change; and what it finds.
-use Rattle.std.proofs.Common.{◌≡◌, ◌∙◌, ℕ, List, [], ◌∷◌, Bool, true, false, Option, Some, bytes_eq, cond, find, map, option_map, refl, sym, ap, ap₂}
+-- What finds sheets and definitions by their names still does, where neither names nor keys change; what it finds; and that
+-- numbers which are known to be taken still are, as sheets come and move.
+use Rattle.std.proofs.Common.{◌≡◌, ◌<◌, ◌∙◌, ℕ, List, [], ◌∷◌, ◌++◌, Bool, true, false, Option, Some, bytes_eq, cond, find, length, map, option_map, refl, sym, ap, ap₂, subst}
+use Rattle.std.proofs.lemmas.List.Edits.{insert_end}
+use Rattle.std.proofs.lemmas.List.Sorted.{IsPermutation-map, list_any-IsPermutation}
+use Rattle.std.proofs.lemmas.Simd.{map-map}
+use Rattle.std.specs.List.{insert, list_any}
 use Rattle.ic_laws.proofs.core.Lists.{updated_unseen}
+use Rattle.ic_laws.proofs.core.SheetMoved.{moved_permutes}
 use Rattle.ic_laws.specs.Changes.{Change}
 use Rattle.ic_laws.specs.CoreBook.{Definition, spelling_of}
-use Rattle.ic_laws.specs.CoreStep.{updated_at}
-use Rattle.ic_laws.specs.Name.{fold}
+use Rattle.ic_laws.specs.CoreStep.{moved, updated_at}
+use Rattle.ic_laws.specs.Name.{agrees, fold}
 use Rattle.ic_laws.specs.Scene.{key_of}
 use Rattle.ic_laws.specs.declared.scene.SheetName.{SheetName}
 use Rattle.ic_laws.specs.declared.tree.NameKey.{NameKey}
 use Rattle.ic_definitions.specs.Named.{key_in}
 use Rattle.ic_pool.proofs.KeyLemmas.{bytes_eq-flip}
+use Rattle.ic_pool.proofs.PlaceLemmas.{inserted_passes}
+use Rattle.ic_sheets.proofs.InsertLemmas.{inserted_seen}
 use Rattle.ic_sheets.proofs.KeptLemmas.{finds_same}
 use Rattle.ic_sheets.proofs.SearchLemmas.{ids, names}
 use Rattle.ic_sheets.specs.Rewriting.{changed_pool, sheets_of}
@@ -18,13 +26,16 @@ use Rattle.ic_sheets.specs.Sheet.{Sheet, sheet_of}
 use Rattle.ic_sheets.specs.declared.sheet.Sheet.{Sheet as HeldSheet}
 use Rattle.ic_parts.specs.Names.{IsIndexed}
 use Rattle.ic_parts.specs.Scene.{named}
+use Rattle.ic_parts.specs.SheetNames.{KnowsNumbers}
 use Rattle.ic_parts.specs.declared.names.NameIndex.{NameIndex}
+use Rattle.ic_parts.specs.declared.taken_numbers.TakenNumbers.{TakenNumbers}
+use Rattle.ic_parts.proofs.TakenLemmas.{knows_more}
 
 -- ---- other sheets of the same names and ids
 
 module _ (index : NameIndex) (ws now : List HeldSheet) (ds : List Definition) (was : IsIndexed index ws ds) where
   pub indexed_same : names now ≡ names ws → ids now ≡ ids ws → IsIndexed index now ds
-  indexed_same same_names same_ids = record { sheets = finds_same index.sheets ws now was.sheets same_names same_ids; names = was.names }
+  indexed_same same_names same_ids = record { sheets = finds_same index.sheets ws now was.sheets same_names same_ids; names = was.names; numbers = subst (KnowsNumbers index.numbers) (sym same_names) was.numbers }
 
   -- one of them holds something else
   pub indexed_updated : (change : HeldSheet → HeldSheet) (at : ℕ) → now ≡ updated_at change at ws → ((s : HeldSheet) → named (change s) ≡ named s) → IsIndexed index now ds
@@ -66,6 +77,33 @@ module _ (index : NameIndex) (ws now : List HeldSheet) (ds : List Definition) (w
           let first : sheet_of x ≡ changed_pool change (sheet_of y) = cc in
           let rest : sheets_of xs ≡ map (changed_pool change) (sheets_of ys) = cc in
           ap₂ (λ (n : ℕ) (ns : List ℕ). n ∷ ns) (ap (λ (s : Sheet). s.id) first) (changed_id xs ys rest)
+
+-- ---- numbers that are known to be taken
+
+module _ (numbers : TakenNumbers) (ws now : List HeldSheet) (known : KnowsNumbers numbers (names ws)) where
+  -- a sheet came
+  pub knows_put : (place : ℕ) (name : List ℕ) → names now ≡ insert (names ws) place name → KnowsNumbers numbers (names now)
+  knows_put place name is = subst (KnowsNumbers numbers) (sym is) (knows_more (names ws) (insert (names ws) place name) (λ q. inserted_passes (agrees q) (names ws) place name) numbers known)
+
+  -- a change went over the formulas of the others
+  pub knows_inserted : (change : Change) (place : ℕ) (s : Sheet) → sheets_of now ≡ insert (map (changed_pool change) (sheets_of ws)) place s → KnowsNumbers numbers (names now)
+  knows_inserted change place s is =
+      knows_put place s.name
+      (sym (map-map (λ (x : Sheet). x.name) sheet_of now) ∙ ap (map (λ (x : Sheet). x.name)) is ∙ inserted_seen (λ (x : Sheet). x.name) (map (changed_pool change) (sheets_of ws)) place s
+      ∙ ap (λ (called : List (List ℕ)). insert called place s.name) (map-map (λ (x : Sheet). x.name) (changed_pool change) (sheets_of ws) ∙ map-map (λ (x : Sheet). x.name) sheet_of ws))
+
+  pub knows_added : (change : Change) (s : Sheet) → sheets_of now ≡ map (changed_pool change) (sheets_of ws) ++ s ∷ [] → KnowsNumbers numbers (names now)
+  knows_added change s is =
+      let others : List Sheet = map (changed_pool change) (sheets_of ws) in
+      knows_inserted change (length others) s (is ∙ sym (insert_end others s))
+
+  -- a sheet got another place
+  pub knows_moved : (from to : ℕ) → from < length ws → now ≡ moved from to ws → KnowsNumbers numbers (names now)
+  knows_moved from to within is =
+      knows_more (names ws) (names now)
+      (λ q e.
+      ap (λ (sheets : List HeldSheet). list_any (agrees q) (names sheets)) is
+      ∙ sym (list_any-IsPermutation (agrees q) (names ws) (names (moved from to ws)) (IsPermutation-map (λ (x : HeldSheet). x.name) ws (moved from to ws) (moved_permutes ws from to within))) ∙ e) numbers known
 
 -- ---- contents of which the formulas can mention the same
 

@@ -30,6 +30,7 @@ pub mod sheet_names;
 pub mod sites;
 pub mod styled;
 pub mod tab;
+pub mod taken_numbers;
 pub mod translation;
 pub mod values;
 pub mod written;

@@ -1,13 +1,14 @@
 //! Names that new sheets get, with a number that makes them differ from all others.
-ghost use Rattle.std.specs.Prelude.{◌≡◌, ◌<◌, ◌^◌, ◌+◌, ◌++◌, [], OnOk, IfOk, chars, length, map, string_bytes, take, false};
+ghost use Rattle.std.specs.Prelude.{◌≡◌, ◌<◌, ◌≤◌, ◌^◌, ◌+◌, ◌++◌, [], OnOk, IfOk, chars, length, map, string_bytes, take, false};
 ghost use Rattle.std.specs.Fmt.{decimal};
 ghost use Rattle.std.specs.List.{list_any};
 ghost use Rattle.ic_laws.specs.Name.{agrees};
 ghost use Rattle.ic_sheets.specs.Index.{FindsSheets};
 ghost use Rattle.ic_sheets.specs.Numbers.{AreMarked};
 ghost use Rattle.ic_machine.specs.subjects.Sheets.{base_name, copy_name, suffix_of};
-ghost use Rattle.ic_parts.specs.SheetNames.{free_among, name_with};
+ghost use Rattle.ic_parts.specs.SheetNames.{AreTaken, HasPassed, KnowsNumbers, free_among, name_with};
 
+use crate::taken_numbers::TakenNumbers;
 use ic_laws::scan::{first_char, push_char, push_text};
 use ic_laws::{OutOfMemory, Text};
 use ic_sheets::{Sheets, is_marked};
@@ -40,55 +41,116 @@ pub fn base_name(language: &Text) -> &'static str
     }
 }
 
-/// The name with the least number from 1 that no sheet has.
+/// The name with the least number from 1 that no sheet has. For the next call it is noted that the numbers below are taken.
 pub fn free_name(
     alloc: Global,
     sheets: &Sheets,
     ids: &BTreeMap<String, u32>,
+    taken: &mut TakenNumbers,
     name: &NumberedName,
 ) -> Result<String, OutOfMemory>
     requires finds { FindsSheets ids.now sheets.now }
+    requires knows { KnowsNumbers taken.old (map (λ s. s.name) sheets.now) }
+    requires few { length sheets.now < 2 ^ 32 }
+    ensures named { IfOk result (λ text. chars (string_bytes text) ≡ name_with name.now
+        (free_among (map (λ s. s.name) sheets.now) (name_with name.now))) }
+    ensures knows { KnowsNumbers taken.new (map (λ s. s.name) sheets.now) }
+{
+    let mut text = String::new(alloc);
+    let passed = put_free_name(alloc, sheets, ids, taken, &mut text, name)?;
+    taken.note(alloc, name, passed);
+    Ok(text)
+}
+
+/// The same, and notes nothing.
+pub fn seen_free_name(
+    alloc: Global,
+    sheets: &Sheets,
+    ids: &BTreeMap<String, u32>,
+    taken: &TakenNumbers,
+    name: &NumberedName,
+) -> Result<String, OutOfMemory>
+    requires finds { FindsSheets ids.now sheets.now }
+    requires knows { KnowsNumbers taken.now (map (λ s. s.name) sheets.now) }
     requires few { length sheets.now < 2 ^ 32 }
     ensures { IfOk result (λ text. chars (string_bytes text) ≡ name_with name.now
         (free_among (map (λ s. s.name) sheets.now) (name_with name.now))) }
 {
     let mut text = String::new(alloc);
-    let marks = marks_of(alloc, sheets, ids, &mut text, name)?;
-    let count = sheets.len() as u64;
-    for passed in 0..count {
-        let taken = is_number_taken(sheets, ids, &marks, &mut text, name, passed)?;
-        if !taken {
-            return Ok(text);
-        }
-    }
-    put_name(&mut text, name, count + 1)?;
+    put_free_name(alloc, sheets, ids, taken, &mut text, name)?;
     Ok(text)
 }
 
-/// A number with which a name is asked for first: where it is free, no name of a sheet is gone through.
+/// How many numbers are asked for one by one before the names of all sheets are gone through.
 const FEW: u64 = 8;
 
-/// Marks, from 0, for the numbers from 1: one is marked only where a sheet has the name with this number. The text is
-/// written over.
-fn marks_of(
+/// Writes the name with the least number from 1 that no sheet has in the place of a text, and answers how many numbers are less.
+fn put_free_name(
     alloc: Global,
     sheets: &Sheets,
     ids: &BTreeMap<String, u32>,
+    taken: &TakenNumbers,
     text: &mut String,
     name: &NumberedName,
-) -> Result<Vec<bool>, OutOfMemory>
-    requires { FindsSheets ids.now sheets.now }
+) -> Result<u64, OutOfMemory>
+    requires finds { FindsSheets ids.now sheets.now }
+    requires knows { KnowsNumbers taken.now (map (λ s. s.name) sheets.now) }
+    requires few { length sheets.now < 2 ^ 32 }
+    ensures named { OnOk result (chars (string_bytes text.new) ≡ name_with name.now
+        (free_among (map (λ s. s.name) sheets.now) (name_with name.now))) }
+    ensures taken { IfOk result (AreTaken (map (λ s. s.name) sheets.now) (name_with name.now)) }
+{
+    let count = sheets.len() as u64;
+    let known = taken.known(name).min(count);
+    let soon = count.min(known + FEW);
+    let near = pass_taken(sheets, ids, &[], text, name, known, soon)?;
+    if near < known + FEW {
+        return Ok(near);
+    }
+    let marks = marks_of(alloc, sheets, name)?;
+    pass_taken(sheets, ids, &marks, text, name, near, count)
+}
+
+/// Marks, from 0, for the numbers from 1: one is marked only where a sheet has the name with this number.
+fn marks_of(alloc: Global, sheets: &Sheets, name: &NumberedName) -> Result<Vec<bool>, OutOfMemory>
     ensures { IfOk result (λ marks. AreMarked (name_with name.now) (map (λ s. s.name) sheets.now)
         marks.items) }
 {
-    put_name(text, name, FEW)?;
-    if !sheets.is_taken(ids, text.as_str()) {
-        return Ok(Vec::new(alloc));
-    }
     match name {
         NumberedName::Word(base) => sheets.marked_numbers(base),
         NumberedName::Copy(_) => Ok(Vec::new(alloc)),
     }
+}
+
+/// Answers how many numbers from 1 on are taken one after another: so many are known to be, and no more than so many are asked
+/// for. The text is then the name with the next number.
+fn pass_taken(
+    sheets: &Sheets,
+    ids: &BTreeMap<String, u32>,
+    marks: &[bool],
+    text: &mut String,
+    name: &NumberedName,
+    known: u64,
+    most: u64,
+) -> Result<u64, OutOfMemory>
+    requires finds { FindsSheets ids.now sheets.now }
+    requires marked { AreMarked (name_with name.now) (map (λ s. s.name) sheets.now) marks.now }
+    requires few { most < 2 ^ 32 }
+    requires within { known ≤ most }
+    requires known { AreTaken (map (λ s. s.name) sheets.now) (name_with name.now) known }
+    ensures passed { IfOk result (HasPassed (map (λ s. s.name) sheets.now) (name_with name.now)
+        most) }
+    ensures named { IfOk result (λ passed. chars (string_bytes text.new)
+        ≡ name_with name.now (passed + 1)) }
+{
+    for passed in known..most {
+        let taken = is_number_taken(sheets, ids, marks, text, name, passed)?;
+        if !taken {
+            return Ok(passed);
+        }
+    }
+    put_name(text, name, most + 1)?;
+    Ok(most)
 }
 
 /// Whether a sheet has the name with the number behind this one. Where none does, the text is that name.

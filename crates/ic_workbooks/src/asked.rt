@@ -16,6 +16,7 @@ pub mod sheets;
 use crate::asked::definitions::ask_definitions;
 use ic_cells::{Workbook, Worksheet};
 use ic_parts::contents::Contents;
+use ic_parts::taken_numbers::TakenNumbers;
 use ic_parts::{BookError, NameIndex};
 use ic_refs::is_valid_sheet_name;
 use ic_sheets::{Sheets, has_apart_names, sheets_of};
@@ -45,6 +46,7 @@ pub fn ask_contents(alloc: Global, workbook: &Workbook) -> Result<(Contents, Nam
     let names = NameIndex {
         sheets: ids,
         names: places,
+        numbers: TakenNumbers::new(alloc),
     };
     Ok((contents, names))
 }

@@ -1,13 +1,18 @@
-use Rattle.std.proofs.Common.{◌++◌, ap, chars, refl, ◌∙◌}
+use Rattle.std.proofs.Common.{◌+◌, ◌++◌, ap, chars, refl, subst, sym, ◌∙◌}
 use Rattle.ic_definitions.specs.Named.{definitions_scene}
 use Rattle.ic_sheets.proofs.IndexLemmas.{read_boxed}
+use Rattle.ic_sheets.proofs.InsertLemmas.{inserted_seen}
 use Rattle.ic_sheets.proofs.OwnLemmas.{same_ids, same_names}
 use Rattle.ic_sheets.proofs.SearchLemmas.{ids, names}
+use Rattle.ic_sheets.specs.declared.sheet.Sheet.{Sheet as HeldSheet}
 use Rattle.ic_tree.specs.LanguageWords.{function_of}
 use Rattle.ic_changes.proofs.CopiedContents.{copy_gone, copy_made}
 use Rattle.ic_changes.proofs.CopiedDefinitions.{copies_apart, copies_differ}
 use Rattle.ic_parts.proofs.HeldLemmas.{read_is}
-use Rattle.ic_parts.proofs.NameIndexLemmas.{indexed_same, indexed_updated}
+use Rattle.ic_parts.proofs.NameIndexLemmas.{indexed_same, indexed_updated, knows_put}
+use Rattle.ic_parts.specs.SheetNames.{KnowsNumbers}
+use Rattle.ic_parts.specs.declared.contents.Contents.{Contents}
+use Rattle.ic_parts.specs.declared.taken_numbers.TakenNumbers.{TakenNumbers}
 use Rattle.ic_changes.proofs.SparedBodies.{naming_bodies}
 use Rattle.ic_changes.proofs.sheet_copies.copy_sheet.Goals as goal
 
@@ -19,6 +24,14 @@ prepare_dangling-requires c = naming_bodies (definitions_scene (c.new-both.resul
 
 pub add_copies-requires-clause-apart : goal.add_copies-requires-clause-apart
 add_copies-requires-clause-apart c = copies_apart 0 c.args.id c.args.contents.now.definitions c.requires.unscoped c.in_ok-copies.copies _ c.in_ok-copies.ensures.copies
+
+pub add_copies-requires-clause-indexed : goal.add_copies-requires-clause-indexed
+add_copies-requires-clause-indexed c = record {
+  sheets = c.insert_unapplied.ensures.finds;
+  names = c.requires.indexed.names;
+  numbers = knows_put c.args.names.now.numbers c.args.contents.now.sheets c.insert_unapplied.new.self c.requires.indexed.numbers (c.args.index + 1) (chars c.args.name.now)
+      (ap names c.in_ok-prepared.ensures.ok ∙ inserted_seen (λ (s : HeldSheet). s.name) c.args.contents.now.sheets (c.args.index + 1) _);
+}
 
 pub returns-in-Ok-clause-ok : goal.returns-in-Ok-clause-ok
 returns-in-Ok-clause-ok c = λ source at.
@@ -32,6 +45,14 @@ returns-in-Ok-clause-ok c = λ source at.
 pub returns-in-Err-clause-err : goal.returns-in-Err-clause-err
 returns-in-Err-clause-err c =
     copy_gone c.args.contents.now c.add_copies.new.contents c.args.index c.args.id (chars c.args.name.now) c.insert_unapplied.new.self c.requires.within c.in_ok-prepared.ensures.ok c.in-Err.ensures.err c.take_out.new.self c.take_out.ensures.left
+
+pub returns-in-Err-clause-indexed : goal.returns-in-Err-clause-indexed
+returns-in-Err-clause-indexed c = record {
+  sheets = c.take_out.ensures.finds;
+  names = c.add_copies.ensures.indexed.names;
+  numbers = subst (λ (n : TakenNumbers). KnowsNumbers n (names c.take_out.new.self)) (sym c.add_copies.ensures.numbers)
+      (subst (λ (m : Contents). KnowsNumbers c.args.names.now.numbers (names m.sheets)) (sym (returns-in-Err-clause-err c)) c.requires.indexed.numbers);
+}
 
 pub returns-in-Ok-clause-indexed : goal.returns-in-Ok-clause-indexed
 returns-in-Ok-clause-indexed c =

@@ -45,3 +45,6 @@ pub returns-clause-met : goal.returns-clause-met
 returns-clause-met c = λ l tables.
     let w : Workbook = c.args.workbook.now in
     met_next w tables l 3 4 Definitions refl refl (met_next w tables l 2 3 SheetIds refl refl (met_next w tables l 1 2 SheetNames refl refl (met_next w tables l 0 1 SheetCount refl refl (met_none w tables l) (count_met w l tables (subst HasCount c.as_slice-worksheets.ensures c.in_ok-ask_count.ensures))) (names_met w l tables (subst HasNames c.as_slice-worksheets.ensures c.in_ok-ask_names.ensures))) (ids_met w l tables (subst HasIds c.as_slice-worksheets.ensures c.in_ok-sheets.ensures.0))) (definitions_met w l tables (subst AreDefined c.as_slice.ensures c.in_ok-definitions.ensures.0))
+
+pub returns-clause-indexed : goal.returns-clause-indexed
+returns-clause-indexed c = record { sheets = c.in_ok-sheets.ensures.2; names = c.in_ok-definitions.ensures.2; numbers = c.new.ensures _ }

@@ -14,9 +14,10 @@ add_definition-requires-clause-spares c = it_spares c.self.inside c.self.invaria
 
 pub invariant_of-self-2 : goal.invariant_of-self-2
 invariant_of-self-2 c =
+    let same = indexed_changed c.self.inside.names c.self.inside.contents.sheets c.add_definition.new.contents.sheets c.self.inside.contents.definitions c.self.invariant.names (definition_added (spelling_of c.in_ok-definition.definition)) c.in_ok-add_definition.ensures.sheets in
     record {
       book = defined_held c.self.inside c.self.invariant.book c.args.self.now c.self.view_is (chars c.args.name.now) c.args.scope c.in_ok-id.id c.in_ok-id.ensures.id (chars c.args.formula.now) (body_of_typed c.in_ok-id.body) c.in_ok-definition.definition c.in_ok-id.ensures.body c.in_ok-id.ensures.refused c.in_ok-definition.ensures c.add_definition.new.contents.sheets c.add_definition.new.contents.definitions c.in_ok-add_definition.ensures.sheets c.in_ok-add_definition.ensures.definitions;
-      names = record { sheets = (indexed_changed c.self.inside.names c.self.inside.contents.sheets c.add_definition.new.contents.sheets c.self.inside.contents.definitions c.self.invariant.names (definition_added (spelling_of c.in_ok-definition.definition)) c.in_ok-add_definition.ensures.sheets).sheets; names = c.add_definition.ensures.finds };
+      names = record { sheets = same.sheets; names = c.add_definition.ensures.finds; numbers = same.numbers };
     }
 
 pub returns-clause-ok : goal.returns-clause-ok

@@ -26,7 +26,7 @@ invariant_of-self-2 c =
       book = held_after c.self.inside c.self.invariant.book c.delete_sheet.new.self c.apply.new.self (book_changed_by (with_removed_sheet c.args.index) (held c.self.inside))
           (removed c.self.inside c.self.invariant.book c.delete_sheet.new.self c.apply.new.self c.args.index at.0 at.1 (c.in_ok-delete_sheet.ensures.ok at.0 at.1) (c.apply.ensures.bodies ∙ c.in_ok-bodies.ensures.made at.0 at.1))
           (removed_valid (held c.self.inside) c.self.invariant.book c.args.index (delete_accepts (core_of (held c.self.inside)) c.args.index (more_than_one c.self.inside.contents.sheets c.len.result c.len.ensures c.if-len-eq1.false) (there_is c.self.inside.contents.sheets c.args.index (within_of c.self.inside.contents.sheets c.len-2.result c.args.index c.len-2.ensures c.if-index-len.false))));
-      names = record { sheets = c.delete_sheet.ensures.finds; names = c.apply.ensures.finds c.self.inside.names.names c.self.invariant.names.names };
+      names = record { sheets = c.delete_sheet.ensures.finds; names = c.apply.ensures.finds c.self.inside.names.names c.self.invariant.names.names; numbers = c.forget.ensures _ };
     }
 
 pub returns-clause-ok : goal.returns-clause-ok

@@ -58,7 +58,7 @@ invariant_of-self-2 c =
       book = held_after c.self.inside c.self.invariant.book c.rename_sheet.new.self c.apply.new.self (book_changed_by (with_renamed_sheet c.args.index name) (held c.self.inside))
           (renamed c.self.inside c.self.invariant.book c.rename_sheet.new.self c.apply.new.self c.args.index name at.0 none at.1 (c.in_ok-rename_sheet.ensures.ok at.0 at.1) (c.apply.ensures.bodies ∙ c.in_ok-bodies.ensures.made ∙ ap (λ (s : HeldSheet). map (with_body_tree (changed_tree (sheet_named (definitions_scene c.self.inside.contents.definitions) s.id name))) c.self.inside.contents.definitions) (read_is c.as_slice.result.now c.self.inside.contents.sheets c.args.index c.as_ref.result.now at.0 c.as_slice.ensures.sheets (within_of c.self.inside.contents.sheets c.len.result c.args.index c.len.ensures c.if-index-len.false) (read_boxed c.as_slice.result.now c.args.index c.as_ref.ensures c.index-as_slice-index.is) at.1)))
           (renamed_valid (held c.self.inside) c.self.invariant.book c.args.index name none);
-      names = record { sheets = c.rename_sheet.ensures.finds; names = c.apply.ensures.finds c.self.inside.names.names c.self.invariant.names.names };
+      names = record { sheets = c.rename_sheet.ensures.finds; names = c.apply.ensures.finds c.self.inside.names.names c.self.invariant.names.names; numbers = c.forget.ensures _ };
     }
 
 pub returns-clause-ok : goal.returns-clause-ok

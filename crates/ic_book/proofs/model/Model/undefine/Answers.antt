@@ -25,9 +25,10 @@ returns-in_err-delete_at-clause-refused c =
 pub invariant_of-self-2 : goal.invariant_of-self-2
 invariant_of-self-2 c =
     let there = item_at_position (is_named (chars c.args.name.now) c.in-Some.id) c.self.inside.contents.definitions c.in-Some-index_of.index (sym c.index_of.ensures ∙ c.in-Some-index_of.is) in
+    let same = indexed_changed c.self.inside.names c.self.inside.contents.sheets c.delete_at.new.contents.sheets c.self.inside.contents.definitions c.self.invariant.names (definition_gone (definitions_scene (remove c.self.inside.contents.definitions c.in-Some-index_of.index)) (spelling_of there.0)) (c.in_ok-delete_at.ensures.sheets there.0 there.1) in
     record {
       book = undefined_held c.self.inside c.self.invariant.book c.args.self.now c.self.view_is (chars c.args.name.now) c.args.scope c.in-Some.id (sym c.scope_id.ensures ∙ c.in-Some.is) c.in-Some-index_of.index (sym c.index_of.ensures ∙ c.in-Some-index_of.is) c.delete_at.new.contents.sheets c.delete_at.new.contents.definitions c.in_ok-delete_at.ensures.sheets c.in_ok-delete_at.ensures.definitions;
-      names = record { sheets = (indexed_changed c.self.inside.names c.self.inside.contents.sheets c.delete_at.new.contents.sheets c.self.inside.contents.definitions c.self.invariant.names (definition_gone (definitions_scene (remove c.self.inside.contents.definitions c.in-Some-index_of.index)) (spelling_of there.0)) (c.in_ok-delete_at.ensures.sheets there.0 there.1)).sheets; names = c.delete_at.ensures.finds };
+      names = record { sheets = same.sheets; names = c.delete_at.ensures.finds; numbers = same.numbers };
     }
 
 pub returns-clause-ok : goal.returns-clause-ok

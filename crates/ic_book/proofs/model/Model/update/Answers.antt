@@ -43,9 +43,10 @@ returns-in_err-apply-clause-refused c = wanted_after (whole_of c.args.self.now.b
 
 pub invariant_of-self-2 : goal.invariant_of-self-2
 invariant_of-self-2 c =
+    let same = indexed_same c.self.inside.names c.self.inside.contents.sheets c.apply.new.contents.sheets c.self.inside.contents.definitions c.self.invariant.names (ap names c.in_ok-apply.ensures.sheets ∙ same_names _ _) (ap ids c.in_ok-apply.ensures.sheets ∙ same_ids _ _) in
     record {
       book = updated_held c.self.inside c.self.invariant.book c.args.self.now c.self.view_is (update_of (chars c.args.name.now) c.args.scope (chars c.args.new_name.now) c.args.new_scope (chars c.args.formula.now)) c.in_ok-checked.checked c.in_ok-checked.ensures.checked c.get_default_language-english.result.now c.get_default_language-english.ensures.found c.in_ok-change.change c.in_ok-change.ensures c.in_ok-prepared.prepared c.in_ok-prepared.ensures (sym c.captures-2.ensures ∙ c.if-captures.false) c.in_ok-definition.definition c.in_ok-definition.ensures c.apply.new.contents.sheets c.apply.new.contents.definitions c.in_ok-apply.ensures.sheets c.in_ok-apply.ensures.definitions;
-      names = record { sheets = (indexed_same c.self.inside.names c.self.inside.contents.sheets c.apply.new.contents.sheets c.self.inside.contents.definitions c.self.invariant.names (ap names c.in_ok-apply.ensures.sheets ∙ same_names _ _) (ap ids c.in_ok-apply.ensures.sheets ∙ same_ids _ _)).sheets; names = c.apply.ensures.finds };
+      names = record { sheets = same.sheets; names = c.apply.ensures.finds; numbers = same.numbers };
     }
 
 pub returns-clause-ok : goal.returns-clause-ok

@@ -1,7 +1,6 @@
 use Rattle.std.proofs.Common.{map}
-use Rattle.ic_parts.specs.SheetNames.{name_with}
-use Rattle.ic_parts.proofs.FreeNames.{AreTaken}
-use Rattle.ic_parts.proofs.sheet_names.free_name.Given as goal
+use Rattle.ic_parts.specs.SheetNames.{AreTaken, name_with}
+use Rattle.ic_parts.proofs.sheet_names.pass_taken.Given as goal
 
 -- all names so far are taken
 abbrev pub invariant-loop-passed : goal.invariant-loop-passed
