@@ -1,5 +1,6 @@
 pub mod Again
 pub mod Amount
+pub mod Begins
 pub mod Code
 pub mod Convention
 pub mod Counted

@@ -1,6 +1,7 @@
 //! Words that a typed text may be.
-ghost use Rattle.std.specs.Prelude.{◌≡◌, ◌<◌, ◌==◌, chars, false, map, true};
+ghost use Rattle.std.specs.Prelude.{◌≡◌, ◌<◌, ◌==◌, IfSome, chars, false, map, true};
 ghost use Rattle.std.specs.Char.{to_ascii_lowercase};
+ghost use Rattle.ic_input.specs.Begins.{BeginsWith};
 ghost use Rattle.ic_laws.specs.Name.{agrees};
 ghost use Rattle.ic_tables.specs.Words.{boolean_words, error_words, first_agreeing};
 
@@ -44,31 +45,41 @@ pub(crate) fn find_error(language: &Language, text: &str) -> Option<usize>
 fn find_among(words: &[&Text], text: &str) -> Option<usize>
     ensures { result ≡ first_agreeing (map (λ w. w.now) words.now) (chars text.now) }
 {
-    words.iter().position(|word| is_word(word.as_str(), text))
-}
-
-// Whether a text agrees with a word.
-fn is_word(word: &str, text: &str) -> bool
-    ensures { result ≡ agrees (chars word.now) (chars text.now) }
-{
-    !begin_apart(word, text) && agree(word, text)
-}
-
-// Whether both begin with ASCII characters that differ in lower case too.
-fn begin_apart(word: &str, text: &str) -> bool
-    ensures { result ≡ true → agrees (chars word.now) (chars text.now) ≡ false }
-{
-    match (word.as_bytes().first(), text.as_bytes().first()) {
-        (Some(a), Some(b)) => are_apart(*a, *b),
-        _ => false,
+    match lower_first(text) {
+        Some(first) => words
+            .iter()
+            .position(|word| is_word(word.as_str(), text, first)),
+        None => words.iter().position(|word| agree(word.as_str(), text)),
     }
 }
 
-// Whether both are ASCII characters that differ in lower case too.
-fn are_apart(a: u8, b: u8) -> bool
-    ensures first { result ≡ true → a < 128 }
-    ensures second { result ≡ true → b < 128 }
-    ensures apart { result ≡ true → (to_ascii_lowercase a == to_ascii_lowercase b) ≡ false }
+// The lower case of the ASCII character that a text begins with. None where it begins with another, or is empty.
+fn lower_first(text: &str) -> Option<u8>
+    ensures { IfSome result (BeginsWith text.now) }
 {
-    a.is_ascii() && b.is_ascii() && a.to_ascii_lowercase() != b.to_ascii_lowercase()
+    let byte = text.as_bytes().first()?;
+    if byte.is_ascii() {
+        Some(byte.to_ascii_lowercase())
+    } else {
+        None
+    }
+}
+
+// Whether a text that begins so agrees with a word.
+fn is_word(word: &str, text: &str, first: u8) -> bool
+    requires { BeginsWith text.now first }
+    ensures { result ≡ agrees (chars word.now) (chars text.now) }
+{
+    match word.as_bytes().first() {
+        Some(byte) if is_apart(*byte, first) => false,
+        _ => agree(word, text),
+    }
+}
+
+// Whether a byte is an ASCII character with another lower case than this.
+fn is_apart(byte: u8, first: u8) -> bool
+    ensures ascii { result ≡ true → byte < 128 }
+    ensures apart { result ≡ true → (to_ascii_lowercase byte == first) ≡ false }
+{
+    byte.is_ascii() && byte.to_ascii_lowercase() != first
 }
