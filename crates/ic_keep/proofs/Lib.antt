@@ -1,3 +1,4 @@
+pub mod CapturedAgain
 pub mod KeptAlike
 pub mod SpelledSame
 pub mod Uncaptured

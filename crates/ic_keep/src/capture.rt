@@ -37,7 +37,7 @@ pub fn captured_formula(before: &Formula, after: &Formula, change: &KeyChange) -
 
 /// Whether some word of a formula is captured, each beside the one at its place in another formula.
 #[cycle(captured)]
-fn is_captured_beside(tree: &Bound, kept: &Bound, change: &KeyChange) -> bool
+pub(crate) fn is_captured_beside(tree: &Bound, kept: &Bound, change: &KeyChange) -> bool
     ensures { result ≡ captured_beside (change_of (Some change.now)) tree.now kept.now }
 {
     match tree {
@@ -126,7 +126,11 @@ fn is_some_value_captured(
 }
 
 /// Whether a word that meant a definition doesn't mean the one of the key that this has after the update.
-fn is_captured(before: &NameMention, after: Option<&NameMention>, change: &KeyChange) -> bool
+pub(crate) fn is_captured(
+    before: &NameMention,
+    after: Option<&NameMention>,
+    change: &KeyChange,
+) -> bool
     ensures { result ≡ is_captured (change_of (Some change.now)) (Some before.now)
         (option_map (λ word. word.now) after.entry) }
 {

@@ -13,10 +13,10 @@ use std::alloc::Global;
 
 /// The names after a change, and those before it of what is gone.
 #[derive(Drop)]
-struct Change<'k, B: Finder, A: Finder> {
-    before: &'k B,
-    after: &'k A,
-    key: Option<&'k KeyChange>,
+pub(crate) struct Change<'k, B: Finder, A: Finder> {
+    pub(crate) before: &'k B,
+    pub(crate) after: &'k A,
+    pub(crate) key: Option<&'k KeyChange>,
 }
 
 impl<'k, B: Finder, A: Finder> Renaming for Change<'k, B, A> {

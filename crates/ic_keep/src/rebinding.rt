@@ -127,7 +127,7 @@ pub(crate) fn rebind<R: Renaming, N: Finder>(
 }
 
 /// The same in two walks, which knows the variables of LET and LAMBDA.
-fn rebind_whole<R: Renaming, N: Finder>(
+pub(crate) fn rebind_whole<R: Renaming, N: Finder>(
     alloc: Global,
     renaming: &R,
     names: &N,
@@ -182,7 +182,7 @@ fn rebind_all<R: Renaming, N: Finder>(
 }
 
 /// The sheet of a reference.
-fn rebind_sheet<R: Renaming, N: Finder>(
+pub(crate) fn rebind_sheet<R: Renaming, N: Finder>(
     alloc: Global,
     renaming: &R,
     names: &N,
@@ -228,7 +228,7 @@ fn rebind_word<R: Renaming, N: Finder>(
 }
 
 /// A word behind its sheet, which is bound already.
-fn rebind_local_word<R: Renaming, N: Finder>(
+pub(crate) fn rebind_local_word<R: Renaming, N: Finder>(
     alloc: Global,
     renaming: &R,
     names: &N,
