@@ -11,12 +11,13 @@ use Rattle.std.proofs.lemmas.Slice.Eq.{bytes_eq-Decides}
 use Rattle.ic_laws.specs.declared.tree.Formula.{Formula}
 use Rattle.ic_pool.specs.Code.{code}
 use Rattle.ic_pool.specs.Hash.{hash_of, key_cmp}
-use Rattle.ic_pool.specs.LookUp.{AreHashed, IsLeftOut, apart_from, checked, first_of, found, has_key}
+use Rattle.ic_pool.specs.LookUp.{AreHashed, IsEmpty, IsLeftOut, apart_from, checked, first_of, found, has_key}
 use Rattle.ic_pool.specs.Pool.{IsLookUp, KeepsPlaces, KnowsRest, first_place, is_among}
-use Rattle.ic_pool.specs.Rewrites.{AreOut, FitsPool, RewritesState, left_by_hash, left_by_key, changed_by, is_key_among, old_keys, places_of, rewritten_by}
+use Rattle.ic_pool.specs.Rewrites.{AreOut, FitsPool, KnowsOldKeys, RewritesState, left_by_hash, left_by_key, changed_by, is_key_among, keys_of, old_places, places_of, rewritten_by}
+use Rattle.ic_pool.specs.declared.pool.rewrites.OldKey.{OldKey}
 use Rattle.ic_pool.specs.declared.pool.rewrites.Replacement.{Replacement}
 use Rattle.ic_pool.specs.declared.look_up.LookUp.{LookUp}
-use Rattle.ic_pool.proofs.FoundLemmas.{same_both}
+use Rattle.ic_pool.proofs.FoundLemmas.{empty_hashed, same_both}
 use Rattle.ic_pool.proofs.KeyLemmas.{bytes_eq-flip, clash}
 use Rattle.ic_pool.proofs.PlacedLemmas.{Finds}
 
@@ -210,29 +211,30 @@ not_taken : {X : Type 0} (b : Bool) (o : Option X) (x : X) → cond b None o ≡
 not_taken true o x e = cc
 not_taken false o x e = (refl, e)
 
-pub taken_knows : (before after : Index) (late more : List ℕ) (w : RewritesState) (xs : List Formula) → KnowsRest before late xs → FitsPool w xs
-    → ((key : List ℕ) → at_key after key ≡ cond (is_key_among key (old_keys w.changes)) None (at_key before key)) → more ≡ late ++ w.places → KnowsRest after more (rewritten_by w xs)
-taken_knows before after late more w xs knows fits taken moved = record {
+pub taken_knows : (before after : Index) (late more : List ℕ) (w : RewritesState) (xs : List Formula) → KnowsRest before late xs → KnowsOldKeys w xs
+    → ((key : List ℕ) → at_key after key ≡ cond (is_key_among key (keys_of w.old_keys)) None (at_key before key))
+    → more ≡ late ++ w.places → KnowsRest after more (rewritten_by w xs)
+taken_knows before after late more w xs knows known taken moved = record {
   is_true = λ key at e.
-      let parts = not_taken (is_key_among key (old_keys w.changes)) (at_key before key) at (sym (taken key) ∙ e) in
+      let parts = not_taken (is_key_among key (keys_of w.old_keys)) (at_key before key) at (sym (taken key) ∙ e) in
       let x = there (slice_get xs at) key (knows.is_true key at parts.1) in
-      let left : is_among at (places_of w.changes) ≡ false = sym (fits.together at x.0 x.1) ∙ ap (λ k. is_key_among k (old_keys w.changes)) x.2 ∙ parts.0 in
+      let left : is_among at (places_of w.changes) ≡ false = sym (known.together at x.0 x.1) ∙ ap (λ k. is_key_among k (keys_of w.old_keys)) x.2 ∙ parts.0 in
       ap (option_map code) (stays w.changes xs at left) ∙ knows.is_true key at parts.1;
   has_rest = λ at y e l.
       let parts = or_parts (is_among at late) (is_among at w.places) (sym (list_any-append (nat_eq at) late w.places) ∙ ap (is_among at) (sym moved) ∙ l) in
-      let left : is_among at (places_of w.changes) ≡ false = ap (is_among at) (sym fits.places) ∙ parts.1 in
+      let left : is_among at (places_of w.changes) ≡ false = ap (is_among at) (sym known.places) ∙ parts.1 in
       let is = sym (stays w.changes xs at left) ∙ e in
       let has = knows.has_rest at y is parts.0 in
-      (has.0, has.1, taken (code y) ∙ ap (λ b. cond b None (at_key before (code y))) (fits.together at y is ∙ left) ∙ has.2);
+      (has.0, has.1, taken (code y) ∙ ap (λ b. cond b None (at_key before (code y))) (known.together at y is ∙ left) ∙ has.2);
 }
 
 -- ---- what is left of a look-up after the keys of changed formulas were taken out
 
-none_left_by_hash : (changes : List Replacement) (hash : ℕ) → left_by_hash changes hash None ≡ None
+none_left_by_hash : (olds : List OldKey) (hash : ℕ) → left_by_hash olds hash None ≡ None
 none_left_by_hash [] hash = refl
-none_left_by_hash (c ∷ changes) hash = ap (left_by_hash changes hash) (either (nat_eq (hash_of c.old_key) hash)) ∙ none_left_by_hash changes hash
+none_left_by_hash (o ∷ olds) hash = ap (left_by_hash olds hash) (either (nat_eq (hash_of o.key) hash)) ∙ none_left_by_hash olds hash
   where
-    either : (b : Bool) → cond b (apart_from c.at None) None ≡ None
+    either : (b : Bool) → cond b (apart_from o.at None) None ≡ None
     either true = refl
     either false = refl
 
@@ -240,28 +242,28 @@ apart_stays : (b : Bool) (at k : ℕ) → nat_eq k at ≡ false → cond b (apar
 apart_stays true at k other = ap (λ c. cond c None (Some k)) other
 apart_stays false at k other = refl
 
-others_left_by_hash : (changes : List Replacement) (hash k : ℕ) → is_among k (places_of changes) ≡ false → left_by_hash changes hash (Some k) ≡ Some k
+others_left_by_hash : (olds : List OldKey) (hash k : ℕ) → is_among k (old_places olds) ≡ false → left_by_hash olds hash (Some k) ≡ Some k
 others_left_by_hash [] hash k e = refl
-others_left_by_hash (c ∷ changes) hash k e =
-    let parts = or_parts (nat_eq k c.at) (is_among k (places_of changes)) e in
-    ap (left_by_hash changes hash) (apart_stays (nat_eq (hash_of c.old_key) hash) c.at k parts.0) ∙ others_left_by_hash changes hash k parts.1
+others_left_by_hash (o ∷ olds) hash k e =
+    let parts = or_parts (nat_eq k o.at) (is_among k (old_places olds)) e in
+    ap (left_by_hash olds hash) (apart_stays (nat_eq (hash_of o.key) hash) o.at k parts.0) ∙ others_left_by_hash olds hash k parts.1
 
-gone_by_hash : (changes : List Replacement) (xs : List Formula) (hash k : ℕ) → AllByRecursion (λ change. option_map code (slice_get xs change.at) ≡ Some change.old_key) changes
-    → option_map (λ x. hash_of (code x)) (slice_get xs k) ≡ Some hash → is_among k (places_of changes) ≡ true → left_by_hash changes hash (Some k) ≡ None
+gone_by_hash : (olds : List OldKey) (xs : List Formula) (hash k : ℕ) → AllByRecursion (λ old. option_map code (slice_get xs old.at) ≡ Some old.key) olds
+    → option_map (λ x. hash_of (code x)) (slice_get xs k) ≡ Some hash → is_among k (old_places olds) ≡ true → left_by_hash olds hash (Some k) ≡ None
 gone_by_hash [] xs hash k own its e = cc
-gone_by_hash (c ∷ changes) xs hash k own its e = by_test (λ f. gone_by_hash changes xs hash k own.1 its f) (nat_eq k c.at) refl
+gone_by_hash (o ∷ olds) xs hash k own its e = by_test (λ f. gone_by_hash olds xs hash k own.1 its f) (nat_eq k o.at) refl
   where
-    by_test : (is_among k (places_of changes) ≡ true → left_by_hash changes hash (Some k) ≡ None) → (b : Bool) → nat_eq k c.at ≡ b → left_by_hash (c ∷ changes) hash (Some k) ≡ None
+    by_test : (is_among k (old_places olds) ≡ true → left_by_hash olds hash (Some k) ≡ None) → (b : Bool) → nat_eq k o.at ≡ b → left_by_hash (o ∷ olds) hash (Some k) ≡ None
     by_test later true same =
-        let place : k ≡ c.at = eqb-true k c.at same in
-        let x = there (slice_get xs c.at) c.old_key own.0 in
+        let place : k ≡ o.at = eqb-true k o.at same in
+        let x = there (slice_get xs o.at) o.key own.0 in
         let one : Some (hash_of (code x.0)) ≡ Some hash = ap (option_map (λ z. hash_of (code z))) (sym (ap (slice_get xs) place ∙ x.1)) ∙ its in
         let equal : hash_of (code x.0) ≡ hash = cc in
-        ap₂ (λ b d. left_by_hash changes hash (cond b (cond d None (Some k)) (Some k))) (eq-eqb (hash_of c.old_key) hash (ap hash_of (sym x.2) ∙ equal)) same
-        ∙ none_left_by_hash changes hash
+        ap₂ (λ b d. left_by_hash olds hash (cond b (cond d None (Some k)) (Some k))) (eq-eqb (hash_of o.key) hash (ap hash_of (sym x.2) ∙ equal)) same
+        ∙ none_left_by_hash olds hash
     by_test later false other =
-        ap (left_by_hash changes hash) (apart_stays (nat_eq (hash_of c.old_key) hash) c.at k other)
-        ∙ later (sym (ap (λ b. b || is_among k (places_of changes)) other) ∙ e)
+        ap (left_by_hash olds hash) (apart_stays (nat_eq (hash_of o.key) hash) o.at k other)
+        ∙ later (sym (ap (λ b. b || is_among k (old_places olds)) other) ∙ e)
 
 one_more_out : (a b : Bool) (o : Option ℕ) → cond b None (cond a None o) ≡ cond (a || b) None o
 one_more_out true true o = refl
@@ -269,66 +271,73 @@ one_more_out true false o = refl
 one_more_out false true o = refl
 one_more_out false false o = refl
 
-left_keys : (changes : List Replacement) (key : List ℕ) (o : Option ℕ) → left_by_key changes key o ≡ cond (is_key_among key (old_keys changes)) None o
-left_keys [] key o = refl
-left_keys (c ∷ changes) key o =
-    left_keys changes key (cond (bytes_eq c.old_key key) None o)
-    ∙ ap (λ b. cond (is_key_among key (old_keys changes)) None (cond b None o)) (bytes_eq-flip c.old_key key)
-    ∙ one_more_out (bytes_eq key c.old_key) (is_key_among key (old_keys changes)) o
+left_keys : (olds : List OldKey) (key : List ℕ) (p : Option ℕ) → left_by_key olds key p ≡ cond (is_key_among key (keys_of olds)) None p
+left_keys [] key p = refl
+left_keys (o ∷ olds) key p =
+    left_keys olds key (cond (bytes_eq o.key key) None p)
+    ∙ ap (λ b. cond (is_key_among key (keys_of olds)) None (cond b None p)) (bytes_eq-flip o.key key)
+    ∙ one_more_out (bytes_eq key o.key) (is_key_among key (keys_of olds)) p
 
 -- the keys of these are still to be taken out of what is there now, where all were to be
-pub record AreLeft (changes left : List Replacement) (before now : LookUp) : Type 0 where
-  pub by_hash : (hash : ℕ) → left_by_hash left hash (get nat_cmp now.by_hash hash) ≡ left_by_hash changes hash (get nat_cmp before.by_hash hash)
-  pub by_key : (key : List ℕ) → left_by_key left key (get key_cmp now.by_key key) ≡ left_by_key changes key (get key_cmp before.by_key key)
+pub record AreLeft (olds left : List OldKey) (before now : LookUp) : Type 0 where
+  pub by_hash : (hash : ℕ) → left_by_hash left hash (get nat_cmp now.by_hash hash) ≡ left_by_hash olds hash (get nat_cmp before.by_hash hash)
+  pub by_key : (key : List ℕ) → left_by_key left key (get key_cmp now.by_key key) ≡ left_by_key olds key (get key_cmp before.by_key key)
 
-pub one_out : (before now after : LookUp) (changes : List Replacement) (i : ℕ) (x : Replacement) → i < length changes → x ≡ get_or changes i x → AreLeft changes (drop i changes) before now → IsLeftOut x.old_key x.at now after → AreLeft changes (drop (i + 1) changes) before after
-one_out before now after changes i x within item left out =
-    let rest : drop i changes ≡ x ∷ drop (i + 1) changes = drop_more changes i x within ∙ ap (λ y. y ∷ drop (i + 1) changes) (sym item) in
+pub one_out : (before now after : LookUp) (olds : List OldKey) (i : ℕ) (x : OldKey) → i < length olds → x ≡ get_or olds i x → AreLeft olds (drop i olds) before now → IsLeftOut x.key x.at now after → AreLeft olds (drop (i + 1) olds) before after
+one_out before now after olds i x within item left out =
+    let rest : drop i olds ≡ x ∷ drop (i + 1) olds = drop_more olds i x within ∙ ap (λ y. y ∷ drop (i + 1) olds) (sym item) in
     record {
-      by_hash = λ hash. ap (left_by_hash (drop (i + 1) changes) hash) (out.by_hash hash) ∙ sym (ap (λ cs. left_by_hash cs hash (get nat_cmp now.by_hash hash)) rest) ∙ left.by_hash hash;
-      by_key = λ key. ap (left_by_key (drop (i + 1) changes) key) (out.by_key key) ∙ sym (ap (λ cs. left_by_key cs key (get key_cmp now.by_key key)) rest) ∙ left.by_key key;
+      by_hash = λ hash. ap (left_by_hash (drop (i + 1) olds) hash) (out.by_hash hash) ∙ sym (ap (λ os. left_by_hash os hash (get nat_cmp now.by_hash hash)) rest) ∙ left.by_hash hash;
+      by_key = λ key. ap (left_by_key (drop (i + 1) olds) key) (out.by_key key) ∙ sym (ap (λ os. left_by_key os key (get key_cmp now.by_key key)) rest) ∙ left.by_key key;
     }
 
-pub all_out : (before now : LookUp) (changes : List Replacement) (i : ℕ) → length changes ≤ i → AreLeft changes (drop i changes) before now → AreOut changes before now
-all_out before now changes i end left = record {
-  by_hash = λ hash. ap (λ cs. left_by_hash cs hash (get nat_cmp now.by_hash hash)) (sym (drop_all i changes end)) ∙ left.by_hash hash;
-  by_key = λ key. ap (λ cs. left_by_key cs key (get key_cmp now.by_key key)) (sym (drop_all i changes end)) ∙ left.by_key key;
+pub all_out : (before now : LookUp) (olds : List OldKey) (i : ℕ) → length olds ≤ i → AreLeft olds (drop i olds) before now → AreOut olds before now
+all_out before now olds i end left = record {
+  by_hash = λ hash. ap (λ os. left_by_hash os hash (get nat_cmp now.by_hash hash)) (sym (drop_all i olds end)) ∙ left.by_hash hash;
+  by_key = λ key. ap (λ os. left_by_key os key (get key_cmp now.by_key key)) (sym (drop_all i olds end)) ∙ left.by_key key;
 }
 
-module _ (before after : LookUp) (changes : List Replacement) (xs : List Formula) (hashed : AreHashed before xs) (own : AllByRecursion (λ change. option_map code (slice_get xs change.at) ≡ Some change.old_key) changes) where
-  pub out_hashed : AreOut changes before after → AreHashed after (changed_by changes xs)
+module _ (before after : LookUp) (changes : List Replacement) (olds : List OldKey) (stand : old_places olds ≡ places_of changes) (xs : List Formula) (hashed : AreHashed before xs) (own : AllByRecursion (λ old. option_map code (slice_get xs old.at) ≡ Some old.key) olds) where
+  gone_out : (hash k : ℕ) → option_map (λ x. hash_of (code x)) (slice_get xs k) ≡ Some hash
+      → is_among k (places_of changes) ≡ true → left_by_hash olds hash (Some k) ≡ None
+  gone_out hash k its gone = gone_by_hash olds xs hash k own its (ap (is_among k) stand ∙ gone)
+
+  others_stay : (hash k : ℕ) → is_among k (places_of changes) ≡ false → left_by_hash olds hash (Some k) ≡ Some k
+  others_stay hash k left = others_left_by_hash olds hash k (ap (is_among k) stand ∙ left)
+
+  pub out_hashed : AreOut olds before after → AreHashed after (changed_by changes xs)
   out_hashed out hash n e = by_place (get nat_cmp before.by_hash hash) refl (sym (out.by_hash hash) ∙ e)
     where
-      by_place : (o : Option ℕ) → get nat_cmp before.by_hash hash ≡ o → left_by_hash changes hash o ≡ Some n → option_map (λ x. hash_of (code x)) (slice_get (changed_by changes xs) n) ≡ Some hash
-      by_place None f g = let no : None ≡ Some n = sym (none_left_by_hash changes hash) ∙ g in cc
+      by_place : (o : Option ℕ) → get nat_cmp before.by_hash hash ≡ o → left_by_hash olds hash o ≡ Some n → option_map (λ x. hash_of (code x)) (slice_get (changed_by changes xs) n) ≡ Some hash
+      by_place None f g = let no : None ≡ Some n = sym (none_left_by_hash olds hash) ∙ g in cc
       by_place (Some k) f g = by_test (is_among k (places_of changes)) refl
         where
           by_test : (b : Bool) → is_among k (places_of changes) ≡ b → option_map (λ x. hash_of (code x)) (slice_get (changed_by changes xs) n) ≡ Some hash
-          by_test true gone = let no : None ≡ Some n = sym (gone_by_hash changes xs hash k own (hashed hash k f) gone) ∙ g in cc
+          by_test true gone = let no : None ≡ Some n = sym (gone_out hash k (hashed hash k f) gone) ∙ g in cc
           by_test false left =
-              let place : Some k ≡ Some n = sym (others_left_by_hash changes hash k left) ∙ g in
+              let place : Some k ≡ Some n = sym (others_stay hash k left) ∙ g in
               let moved : k ≡ n = cc in
               ap (λ m. option_map (λ x. hash_of (code x)) (slice_get (changed_by changes xs) m)) (sym moved) ∙ ap (option_map (λ x. hash_of (code x))) (stays changes xs k left) ∙ hashed hash k f
 
-  module _ (together : (at : ℕ) (formula : Formula) → slice_get xs at ≡ Some formula → is_key_among (code formula) (old_keys changes) ≡ is_among at (places_of changes)) where
+  module _ (together : (at : ℕ) (formula : Formula) → slice_get xs at ≡ Some formula → is_key_among (code formula) (keys_of olds) ≡ is_among at (places_of changes)) where
     -- a formula with this key is at one of the places exactly where the key is one of the keys
-    with_key : (key : List ℕ) (k : ℕ) (o : Option Formula) → slice_get xs k ≡ o → has_key key o ≡ true → is_key_among key (old_keys changes) ≡ is_among k (places_of changes)
+    with_key : (key : List ℕ) (k : ℕ) (o : Option Formula) → slice_get xs k ≡ o → has_key key o ≡ true → is_key_among key (keys_of olds) ≡ is_among k (places_of changes)
     with_key key k None f has = cc
-    with_key key k (Some x) f has = ap (λ q. is_key_among q (old_keys changes)) ((bytes_eq-Decides key (code x)).0 has) ∙ together k x f
+    with_key key k (Some x) f has = ap (λ q. is_key_among q (keys_of olds)) ((bytes_eq-Decides key (code x)).0 has) ∙ together k x f
 
-    checked_out : (key : List ℕ) (o : Option ℕ) → get nat_cmp before.by_hash (hash_of key) ≡ o → checked (changed_by changes xs) key (left_by_hash changes (hash_of key) o) ≡ cond (is_key_among key (old_keys changes)) None (checked xs key o)
-    checked_out key None f = ap (checked (changed_by changes xs) key) (none_left_by_hash changes (hash_of key)) ∙ same_both (is_key_among key (old_keys changes)) None
-    checked_out key (Some k) f = by_test (is_among k (places_of changes)) refl (has_key key (slice_get xs k)) refl (is_key_among key (old_keys changes)) refl
+    checked_out : (key : List ℕ) (o : Option ℕ) → get nat_cmp before.by_hash (hash_of key) ≡ o → checked (changed_by changes xs) key (left_by_hash olds (hash_of key) o) ≡ cond (is_key_among key (keys_of olds)) None (checked xs key o)
+    checked_out key None f = ap (checked (changed_by changes xs) key) (none_left_by_hash olds (hash_of key)) ∙ same_both (is_key_among key (keys_of olds)) None
+    checked_out key (Some k) f = by_test (is_among k (places_of changes)) refl (has_key key (slice_get xs k)) refl (is_key_among key (keys_of olds)) refl
       where
-        stay : is_among k (places_of changes) ≡ false → checked (changed_by changes xs) key (left_by_hash changes (hash_of key) (Some k)) ≡ checked xs key (Some k)
-        stay left = ap (checked (changed_by changes xs) key) (others_left_by_hash changes (hash_of key) k left) ∙ ap (λ o. cond (has_key key o) (Some k) None) (stays changes xs k left)
+        stay : is_among k (places_of changes) ≡ false → checked (changed_by changes xs) key (left_by_hash olds (hash_of key) (Some k)) ≡ checked xs key (Some k)
+        stay left = ap (checked (changed_by changes xs) key) (others_stay (hash_of key) k left) ∙ ap (λ o. cond (has_key key o) (Some k) None) (stays changes xs k left)
 
-        by_test : (b : Bool) → is_among k (places_of changes) ≡ b → (c : Bool) → has_key key (slice_get xs k) ≡ c → (d : Bool) → is_key_among key (old_keys changes) ≡ d
-            → checked (changed_by changes xs) key (left_by_hash changes (hash_of key) (Some k)) ≡ cond d None (cond c (Some k) None)
-        by_test true gone c has true among = ap (checked (changed_by changes xs) key) (gone_by_hash changes xs (hash_of key) k own (hashed (hash_of key) k f) gone)
-        by_test true gone false has false among = ap (checked (changed_by changes xs) key) (gone_by_hash changes xs (hash_of key) k own (hashed (hash_of key) k f) gone)
-        by_test true gone true has false among = absurd (clash (is_key_among key (old_keys changes)) (with_key key k (slice_get xs k) refl has ∙ gone) among)
-        by_test false left true has true among = absurd (clash (is_key_among key (old_keys changes)) among (with_key key k (slice_get xs k) refl has ∙ left))
+        by_test : (b : Bool) → is_among k (places_of changes) ≡ b → (c : Bool) → has_key key (slice_get xs k) ≡ c → (d : Bool) → is_key_among key (keys_of olds) ≡ d
+            → checked (changed_by changes xs) key (left_by_hash olds (hash_of key) (Some k)) ≡ cond d None (cond c (Some k) None)
+        by_test true gone c has true among = ap (checked (changed_by changes xs) key) (gone_out (hash_of key) k (hashed (hash_of key) k f) gone)
+        by_test true gone false has false among = ap (checked (changed_by changes xs) key) (gone_out (hash_of key) k (hashed (hash_of key) k f) gone)
+        by_test true gone true has false among = absurd (clash (is_key_among key (keys_of olds)) (with_key key k (slice_get xs k) refl has ∙ gone) among)
+        by_test false left true has true among = absurd (clash (is_key_among key (keys_of olds)) among (with_key key k (slice_get xs k) refl has ∙ left))
         by_test false left false has true among = stay left ∙ ap (λ c. cond c (Some k) None) has
         by_test false left c has false among = stay left ∙ ap (λ c. cond c (Some k) None) has
 
@@ -336,11 +345,11 @@ module _ (before after : LookUp) (changes : List Replacement) (xs : List Formula
     both_out true m n = refl
     both_out false m n = refl
 
-    pub out_found : AreOut changes before after → (key : List ℕ) → found after (changed_by changes xs) key ≡ cond (is_key_among key (old_keys changes)) None (found before xs key)
+    pub out_found : AreOut olds before after → (key : List ℕ) → found after (changed_by changes xs) key ≡ cond (is_key_among key (keys_of olds)) None (found before xs key)
     out_found out key =
-        ap₂ (λ a b. first_of a (checked (changed_by changes xs) key b)) (out.by_key key ∙ left_keys changes key (get key_cmp before.by_key key)) (out.by_hash (hash_of key))
-        ∙ ap (first_of (cond (is_key_among key (old_keys changes)) None (get key_cmp before.by_key key))) (checked_out key (get nat_cmp before.by_hash (hash_of key)) refl)
-        ∙ both_out (is_key_among key (old_keys changes)) (get key_cmp before.by_key key) (checked xs key (get nat_cmp before.by_hash (hash_of key)))
+        ap₂ (λ a b. first_of a (checked (changed_by changes xs) key b)) (out.by_key key ∙ left_keys olds key (get key_cmp before.by_key key)) (out.by_hash (hash_of key))
+        ∙ ap (first_of (cond (is_key_among key (keys_of olds)) None (get key_cmp before.by_key key))) (checked_out key (get nat_cmp before.by_hash (hash_of key)) refl)
+        ∙ both_out (is_key_among key (keys_of olds)) (get key_cmp before.by_key key) (checked xs key (get nat_cmp before.by_hash (hash_of key)))
 
 -- ---- what a pool keeps
 
@@ -362,15 +371,25 @@ pub both_true : (a b : Bool) → (a && b) ≡ true → (a ≡ true) × (b ≡ tr
 both_true true b e = (refl, e)
 both_true false b e = (e, cc)
 
-pub look_up_taken : (before after : LookUp) (late more : List ℕ) (w : RewritesState) (knows moved : Bool) (xs list : List Formula) → (knows ≡ true → KnowsRest (found before xs) late xs) → AreHashed before xs → FitsPool w xs
-    → AreOut w.changes before after → (moved ≡ true → more ≡ late ++ w.places) → list ≡ rewritten_by w xs → IsLookUp after false (knows && moved) more list
-look_up_taken before after late more w knows moved xs list rest hashed fits out put made = record {
+pub look_up_taken : (before after : LookUp) (late more : List ℕ) (w : RewritesState) (knows moved : Bool) (xs list : List Formula)
+    → (knows ≡ true → KnowsRest (found before xs) late xs) → AreHashed before xs → FitsPool w xs
+    → (w.keeps_keys ≡ true → AreOut w.old_keys before after) → (w.keeps_keys ≡ false → IsEmpty after)
+    → (moved ≡ true → w.keeps_keys ≡ true) → (moved ≡ true → more ≡ late ++ w.places) → list ≡ rewritten_by w xs
+    → IsLookUp after false (knows && moved) more list
+look_up_taken before after late more w knows moved xs list rest hashed fits out empty kept put made = record {
   finds = λ e. cc;
   rest = λ e.
       let both = both_true knows moved e in
-      subst (λ ys. KnowsRest (found after ys) more ys) (sym made) (taken_knows (found before xs) (found after (rewritten_by w xs)) late more w xs (rest both.0) fits (out_found before after w.changes xs hashed fits.own fits.together out) (put both.1));
-  hashed = subst (AreHashed after) (sym made) (out_hashed before after w.changes xs hashed fits.own out);
+      let known = fits.known (kept both.1) in
+      let taken = out_found before after w.changes w.old_keys known.stand xs hashed known.own known.together (out (kept both.1)) in
+      subst (λ ys. KnowsRest (found after ys) more ys) (sym made)
+      (taken_knows (found before xs) (found after (rewritten_by w xs)) late more w xs (rest both.0) known taken (put both.1));
+  hashed = subst (AreHashed after) (sym made) (still_hashed w.keeps_keys refl);
 }
+  where
+    still_hashed : (b : Bool) → w.keeps_keys ≡ b → AreHashed after (rewritten_by w xs)
+    still_hashed true is = let known = fits.known is in out_hashed before after w.changes w.old_keys known.stand xs hashed known.own (out is)
+    still_hashed false is = empty_hashed after (rewritten_by w xs) (empty is)
 
 pub look_up_late : (index : LookUp) (knows : Bool) (late : List ℕ) (xs list : List Formula) → KnowsRest (found index xs) late xs → AreHashed index xs → late ≡ [] → list ≡ xs → IsLookUp index true knows late list
 look_up_late index knows late xs list rest hashed none same = record {

@@ -18,5 +18,6 @@ pub mod PlacedLemmas
 pub mod Rebuilt
 pub mod RemadeLemmas
 pub mod RewriteLemmas
+pub mod TestedLemmas
 pub mod TopicLemmas
 pub mod WriteLemmas

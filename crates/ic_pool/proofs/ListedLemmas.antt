@@ -7,7 +7,8 @@ use Rattle.std.proofs.lemmas.Slice.Eq.{bytes_eq-Decides}
 use Rattle.ic_laws.specs.declared.tree.Formula.{Formula}
 use Rattle.ic_pool.specs.Code.{code}
 use Rattle.ic_pool.specs.Pool.{is_among, places_from, places_where}
-use Rattle.ic_pool.specs.Rewrites.{is_key_among, is_nothing, old_keys, places_of, replaced_from}
+use Rattle.ic_pool.specs.Rewrites.{is_key_among, is_nothing, keys_of, old_places, places_of, replaced_from}
+use Rattle.ic_pool.specs.declared.pool.rewrites.OldKey.{OldKey}
 use Rattle.ic_pool.specs.declared.pool.rewrites.Replacement.{Replacement}
 use Rattle.ic_pool.proofs.CodeLaws.{code_determines}
 
@@ -88,6 +89,71 @@ module _ (test : Formula → Bool) where
       by_test false fails true found = let no : true ≡ false = sym (only_passing xs x found) ∙ fails in cc
       by_test false fails false found = found ∙ sym fails
 
+-- ---- the same formulas with their places and their keys
+
+module _ (test : Formula → Bool) where
+  -- the keys of those that pass, with their places, where the first stands at this place
+  abbrev pub olds_from : ℕ → List Formula → List OldKey
+  olds_from at [] = []
+  olds_from at (x ∷ xs) = if test x then record { at = at; key = code x } ∷ olds_from (suc at) xs else olds_from (suc at) xs
+
+  -- these have the places of the formulas that pass
+  pub olds_places : (at : ℕ) (xs : List Formula) → old_places (olds_from at xs) ≡ places_from test at xs
+  olds_places at [] = refl
+  olds_places at (x ∷ xs) = after (test x) (olds_places (suc at) xs)
+    where
+      after : (b : Bool) → old_places (olds_from (suc at) xs) ≡ places_from test (suc at) xs
+          → old_places (cond b (record { at = at; key = code x } ∷ olds_from (suc at) xs) (olds_from (suc at) xs))
+          ≡ cond b (at ∷ places_from test (suc at) xs) (places_from test (suc at) xs)
+      after true rest = ap (λ ps. at ∷ ps) rest
+      after false rest = rest
+
+  -- and their keys
+  pub olds_keys : (at : ℕ) (xs : List Formula) → keys_of (olds_from at xs) ≡ keys_where test xs
+  olds_keys at [] = refl
+  olds_keys at (x ∷ xs) = after (test x) (olds_keys (suc at) xs)
+    where
+      after : (b : Bool) → keys_of (olds_from (suc at) xs) ≡ keys_where test xs
+          → keys_of (cond b (record { at = at; key = code x } ∷ olds_from (suc at) xs) (olds_from (suc at) xs))
+          ≡ cond b (code x ∷ keys_where test xs) (keys_where test xs)
+      after true rest = ap (λ ks. code x ∷ ks) rest
+      after false rest = rest
+
+  -- each key is that of the formula at its place
+  pub olds_own : (ys : List Formula) (at : ℕ) (xs : List Formula) → ((k : ℕ) (y : Formula) → slice_get xs k ≡ Some y → slice_get ys (at + k) ≡ Some y)
+      → AllByRecursion (λ old. option_map code (slice_get ys old.at) ≡ Some old.key) (olds_from at xs)
+  olds_own ys at [] there = tt
+  olds_own ys at (x ∷ xs) there = after (test x) (olds_own ys (suc at) xs further)
+    where
+      further : (k : ℕ) (y : Formula) → slice_get xs k ≡ Some y → slice_get ys (suc at + k) ≡ Some y
+      further k y e = subst (λ n. slice_get ys n ≡ Some y) (let n : at + suc k ≡ suc at + k = omega arith in n) (there (suc k) y e)
+
+      here_is : option_map code (slice_get ys at) ≡ Some (code x)
+      here_is = ap (λ n. option_map code (slice_get ys n)) (let n : at ≡ at + 0 = omega arith in n) ∙ ap (option_map code) (there zero x refl)
+
+      after : (b : Bool) → AllByRecursion (λ old. option_map code (slice_get ys old.at) ≡ Some old.key) (olds_from (suc at) xs)
+          → AllByRecursion (λ old. option_map code (slice_get ys old.at) ≡ Some old.key)
+          (cond b (record { at = at; key = code x } ∷ olds_from (suc at) xs) (olds_from (suc at) xs))
+      after true rest = (here_is, rest)
+      after false rest = rest
+
+  -- a formula is put at the end
+  abbrev its_key : ℕ → Formula → List OldKey
+  its_key at x = cond (test x) (record { at = at; key = code x } ∷ []) []
+
+  pub olds_from-push : (at : ℕ) (xs : List Formula) (x : Formula) → olds_from at (xs ++ x ∷ []) ≡ olds_from at xs ++ its_key (at + length xs) x
+  olds_from-push at [] x = ap (λ n. its_key n x) (omega arith)
+  olds_from-push at (y ∷ xs) x = after (test y) (olds_from-push (suc at) xs x)
+    where
+      moved : olds_from (suc at) xs ++ its_key (suc at + length xs) x ≡ olds_from (suc at) xs ++ its_key (at + suc (length xs)) x
+      moved = ap (λ n. olds_from (suc at) xs ++ its_key n x) (let s : suc at + length xs ≡ at + suc (length xs) = omega arith in s)
+
+      after : (b : Bool) → olds_from (suc at) (xs ++ x ∷ []) ≡ olds_from (suc at) xs ++ its_key (suc at + length xs) x
+          → cond b (record { at = at; key = code y } ∷ olds_from (suc at) (xs ++ x ∷ [])) (olds_from (suc at) (xs ++ x ∷ []))
+          ≡ cond b (record { at = at; key = code y } ∷ olds_from (suc at) xs) (olds_from (suc at) xs) ++ its_key (at + suc (length xs)) x
+      after true e = ap (λ os. record { at = at; key = code y } ∷ os) (e ∙ moved)
+      after false e = e ∙ moved
+
 -- ---- the same formulas with what they become
 
 module _ (test : Formula → Bool) (becomes : Formula → Formula) where
@@ -97,32 +163,8 @@ module _ (test : Formula → Bool) (becomes : Formula → Formula) where
   replaced_places at (x ∷ xs) = after (test x) (replaced_places (suc at) xs)
     where
       after : (b : Bool) → places_of (replaced_from test becomes (suc at) xs) ≡ places_from test (suc at) xs
-          → places_of (cond b (record { at = at; formula = becomes x; old_key = code x } ∷ replaced_from test becomes (suc at) xs) (replaced_from test becomes (suc at) xs)) ≡ cond b (at ∷ places_from test (suc at) xs) (places_from test (suc at) xs)
+          → places_of (cond b (record { at = at; formula = becomes x } ∷ replaced_from test becomes (suc at) xs) (replaced_from test becomes (suc at) xs)) ≡ cond b (at ∷ places_from test (suc at) xs) (places_from test (suc at) xs)
       after true rest = ap (λ ps. at ∷ ps) rest
-      after false rest = rest
-
-  -- and their keys
-  pub replaced_keys : (at : ℕ) (xs : List Formula) → old_keys (replaced_from test becomes at xs) ≡ keys_where test xs
-  replaced_keys at [] = refl
-  replaced_keys at (x ∷ xs) = after (test x) (replaced_keys (suc at) xs)
-    where
-      after : (b : Bool) → old_keys (replaced_from test becomes (suc at) xs) ≡ keys_where test xs
-          → old_keys (cond b (record { at = at; formula = becomes x; old_key = code x } ∷ replaced_from test becomes (suc at) xs) (replaced_from test becomes (suc at) xs)) ≡ cond b (code x ∷ keys_where test xs) (keys_where test xs)
-      after true rest = ap (λ ks. code x ∷ ks) rest
-      after false rest = rest
-
-  -- each key is that of the formula at its place
-  pub replaced_own : (ys : List Formula) (at : ℕ) (xs : List Formula) → ((k : ℕ) (y : Formula) → slice_get xs k ≡ Some y → slice_get ys (at + k) ≡ Some y)
-      → AllByRecursion (λ change. option_map code (slice_get ys change.at) ≡ Some change.old_key) (replaced_from test becomes at xs)
-  replaced_own ys at [] there = tt
-  replaced_own ys at (x ∷ xs) there = after (test x) (replaced_own ys (suc at) xs (λ k y e. subst (λ n. slice_get ys n ≡ Some y) (let n : at + suc k ≡ suc at + k = omega arith in n) (there (suc k) y e)))
-    where
-      here_is : option_map code (slice_get ys at) ≡ Some (code x)
-      here_is = ap (λ n. option_map code (slice_get ys n)) (let n : at ≡ at + 0 = omega arith in n) ∙ ap (option_map code) (there zero x refl)
-
-      after : (b : Bool) → AllByRecursion (λ change. option_map code (slice_get ys change.at) ≡ Some change.old_key) (replaced_from test becomes (suc at) xs)
-          → AllByRecursion (λ change. option_map code (slice_get ys change.at) ≡ Some change.old_key) (cond b (record { at = at; formula = becomes x; old_key = code x } ∷ replaced_from test becomes (suc at) xs) (replaced_from test becomes (suc at) xs))
-      after true rest = (here_is, rest)
       after false rest = rest
 
   -- there is none exactly where no formula passes
@@ -131,13 +173,13 @@ module _ (test : Formula → Bool) (becomes : Formula → Formula) where
   replaced_none at (x ∷ xs) = after (test x) (replaced_none (suc at) xs)
     where
       after : (b : Bool) → is_nothing (replaced_from test becomes (suc at) xs) ≡ not (list_any test xs)
-          → is_nothing (cond b (record { at = at; formula = becomes x; old_key = code x } ∷ replaced_from test becomes (suc at) xs) (replaced_from test becomes (suc at) xs)) ≡ not (b || list_any test xs)
+          → is_nothing (cond b (record { at = at; formula = becomes x } ∷ replaced_from test becomes (suc at) xs) (replaced_from test becomes (suc at) xs)) ≡ not (b || list_any test xs)
       after true rest = refl
       after false rest = rest
 
   -- a formula is put at the end
   abbrev here : ℕ → Formula → List Replacement
-  here at x = cond (test x) (record { at = at; formula = becomes x; old_key = code x } ∷ []) []
+  here at x = cond (test x) (record { at = at; formula = becomes x } ∷ []) []
 
   pub replaced_from-push : (at : ℕ) (xs : List Formula) (x : Formula) → replaced_from test becomes at (xs ++ x ∷ []) ≡ replaced_from test becomes at xs ++ here (at + length xs) x
   replaced_from-push at [] x = ap (λ n. here n x) (omega arith)
@@ -147,7 +189,7 @@ module _ (test : Formula → Bool) (becomes : Formula → Formula) where
       moved = ap (λ n. replaced_from test becomes (suc at) xs ++ here n x) (let s : suc at + length xs ≡ at + suc (length xs) = omega arith in s)
 
       after : (b : Bool) → replaced_from test becomes (suc at) (xs ++ x ∷ []) ≡ replaced_from test becomes (suc at) xs ++ here (suc at + length xs) x
-          → cond b (record { at = at; formula = becomes y; old_key = code y } ∷ replaced_from test becomes (suc at) (xs ++ x ∷ [])) (replaced_from test becomes (suc at) (xs ++ x ∷ []))
-          ≡ cond b (record { at = at; formula = becomes y; old_key = code y } ∷ replaced_from test becomes (suc at) xs) (replaced_from test becomes (suc at) xs) ++ here (at + suc (length xs)) x
-      after true e = ap (λ ps. record { at = at; formula = becomes y; old_key = code y } ∷ ps) (e ∙ moved)
+          → cond b (record { at = at; formula = becomes y } ∷ replaced_from test becomes (suc at) (xs ++ x ∷ [])) (replaced_from test becomes (suc at) (xs ++ x ∷ []))
+          ≡ cond b (record { at = at; formula = becomes y } ∷ replaced_from test becomes (suc at) xs) (replaced_from test becomes (suc at) xs) ++ here (at + suc (length xs)) x
+      after true e = ap (λ ps. record { at = at; formula = becomes y } ∷ ps) (e ∙ moved)
       after false e = e ∙ moved

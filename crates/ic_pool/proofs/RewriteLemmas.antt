@@ -15,11 +15,11 @@ use Rattle.ic_laws.specs.declared.tree.Formula.{Formula}
 use Rattle.ic_pool.specs.Code.{code}
 use Rattle.ic_pool.specs.MentionPlaces.{HasPassing}
 use Rattle.ic_pool.specs.Pool.{is_among, places_where}
-use Rattle.ic_pool.specs.Rewrites.{FitsPool, IsNoted, IsNotedAt, RewritesState, changed_by, is_key_among, old_keys, places_of, replaced_from, rewritten_by}
+use Rattle.ic_pool.specs.Rewrites.{FitsPool, IsNoted, IsNotedAt, KnowsOldKeys, RewritesState, changed_by, is_key_among, keys_of, old_places, places_of, replaced_from, rewritten_by}
 use Rattle.ic_pool.specs.declared.pool.rewrites.Replacement.{Replacement}
 use Rattle.ic_pool.proofs.IndexLemmas.{places_from-push}
 use Rattle.ic_pool.proofs.KeyLemmas.{clash}
-use Rattle.ic_pool.proofs.ListedLemmas.{above, below, key_passes, keys_where, passes_there, replaced_from-push, replaced_keys, replaced_own, replaced_places}
+use Rattle.ic_pool.proofs.ListedLemmas.{above, below, key_passes, olds_from, olds_from-push, olds_keys, olds_own, olds_places, passes_there, replaced_from-push, replaced_places}
 
 -- a change behind others is made after them
 changed_by-push : (changes : List Replacement) (change : Replacement) (formulas : List Formula) → changed_by (changes ++ change ∷ []) formulas ≡ set (changed_by changes formulas) change.at change.formula
@@ -39,7 +39,8 @@ module _ (f : Formula → Formula) (test : Formula → Bool) (formulas : List Fo
     pub made : rewritten_by s formulas ≡ map f (take i formulas) ++ drop i formulas
     pub within : AllByRecursion Within s.changes
     pub changes : s.changes ≡ replaced_from test f 0 (take i formulas)
-    pub places : s.places ≡ places_where test (take i formulas)
+    pub places : s.keeps_keys ≡ true → s.places ≡ places_where test (take i formulas)
+    pub olds : s.keeps_keys ≡ true → s.old_keys ≡ olds_from test 0 (take i formulas)
 
   -- all are rewritten, and the changes are those of the ones that pass
   pub record Rewritten (s : RewritesState) : Type 0 where
@@ -55,17 +56,29 @@ module _ (f : Formula → Formula) (test : Formula → Bool) (formulas : List Fo
       done.made ∙ ap₂ (λ a b. map f a ++ b) all (drop_all i formulas end) ∙ append-nil (map f formulas) in
       let changes : s.changes ≡ replaced_from test f 0 formulas = done.changes ∙ ap (replaced_from test f 0) all in
       let listed : places_of s.changes ≡ places_where test formulas = ap places_of changes ∙ replaced_places test f 0 formulas in
-      let keys : old_keys s.changes ≡ keys_where test formulas = ap old_keys changes ∙ replaced_keys test f 0 formulas in
       record {
         made = made;
         changes = changes;
         listed = listed;
         fits = record {
           within = done.within;
-          places = done.places ∙ ap (places_where test) all ∙ sym listed;
-          own = subst (AllByRecursion (λ change. option_map code (slice_get formulas change.at) ≡ Some change.old_key)) (sym changes) (replaced_own test f formulas 0 formulas (λ k y e. subst (λ n. slice_get formulas n ≡ Some y) (let n : k ≡ 0 + k = omega arith in n) e));
-          together = λ at x e. ap (is_key_among (code x)) keys ∙ key_passes test formulas at x e ∙ sym (ap (is_among at) listed ∙ passes_there test formulas at x e);
+          known = λ kept. known listed (done.places kept ∙ ap (places_where test) all) (done.olds kept ∙ ap (olds_from test 0) all);
         };
+      }
+    where
+      its : (k : ℕ) (y : Formula) → slice_get formulas k ≡ Some y → slice_get formulas (0 + k) ≡ Some y
+      its k y e = subst (λ n. slice_get formulas n ≡ Some y) (let n : k ≡ 0 + k = omega arith in n) e
+
+      known : places_of s.changes ≡ places_where test formulas → s.places ≡ places_where test formulas → s.old_keys ≡ olds_from test 0 formulas
+          → KnowsOldKeys s formulas
+      known listed places olds = record {
+        places = places ∙ sym listed;
+        stand = ap old_places olds ∙ olds_places test 0 formulas ∙ sym listed;
+        own = subst (AllByRecursion (λ old. option_map code (slice_get formulas old.at) ≡ Some old.key)) (sym olds)
+            (olds_own test formulas 0 formulas its);
+        together = λ at x e.
+            ap (is_key_among (code x)) (ap keys_of olds ∙ olds_keys test 0 formulas) ∙ key_passes test formulas at x e
+            ∙ sym (ap (is_among at) listed ∙ passes_there test formulas at x e);
       }
 
   module _ (i next : ℕ) (x : Formula) (s t : RewritesState) (is_next : i + 1 ≡ next) (below : i < length formulas) (item : x ≡ get_or formulas i x) where
@@ -86,16 +99,16 @@ module _ (f : Formula → Formula) (test : Formula → Bool) (formulas : List Fo
     seam : front ++ f x ∷ drop next formulas ≡ map f (take next formulas) ++ drop next formulas
     seam = sym (append_assoc front (f x ∷ []) (drop next formulas)) ∙ ap (λ xs. xs ++ drop next formulas) (sym more)
 
-    step_made : RewrittenTo i s → ((f x ≡ x) × (t.changes ≡ s.changes)) ⊎ (t.changes ≡ s.changes ++ record { at = i; formula = f x; old_key = code x } ∷ []) → rewritten_by t formulas ≡ map f (take next formulas) ++ drop next formulas
+    step_made : RewrittenTo i s → ((f x ≡ x) × (t.changes ≡ s.changes)) ⊎ (t.changes ≡ s.changes ++ record { at = i; formula = f x } ∷ []) → rewritten_by t formulas ≡ map f (take next formulas) ++ drop next formulas
     unfolding front
     step_made done (inl same) = ap (λ changes. changed_by changes formulas) same.1 ∙ done.made ∙ ap (λ xs. front ++ xs) (rest ∙ ap (λ y. y ∷ drop next formulas) (sym same.0)) ∙ seam
     step_made done (inr put) =
-        ap (λ changes. changed_by changes formulas) put ∙ changed_by-push s.changes (record { at = i; formula = f x; old_key = code x }) formulas
+        ap (λ changes. changed_by changes formulas) put ∙ changed_by-push s.changes (record { at = i; formula = f x }) formulas
         ∙ ap (λ xs. set xs i (f x)) (done.made ∙ ap (λ xs. front ++ xs) rest) ∙ set_at front x (drop next formulas) (f x) i length-front ∙ seam
 
-    step_within : RewrittenTo i s → ((f x ≡ x) × (t.changes ≡ s.changes)) ⊎ (t.changes ≡ s.changes ++ record { at = i; formula = f x; old_key = code x } ∷ []) → AllByRecursion Within t.changes
+    step_within : RewrittenTo i s → ((f x ≡ x) × (t.changes ≡ s.changes)) ⊎ (t.changes ≡ s.changes ++ record { at = i; formula = f x } ∷ []) → AllByRecursion Within t.changes
     step_within done (inl same) = subst (AllByRecursion Within) (sym same.1) done.within
-    step_within done (inr put) = subst (AllByRecursion Within) (sym put) (all-push Within s.changes (record { at = i; formula = f x; old_key = code x }) done.within below)
+    step_within done (inr put) = subst (AllByRecursion Within) (sym put) (all-push Within s.changes (record { at = i; formula = f x }) done.within below)
 
     one_more : take next formulas ≡ take i formulas ++ x ∷ []
     one_more = ap (λ n. take n formulas) (sym is_next) ∙ take_more formulas i x below ∙ ap (λ y. take i formulas ++ y ∷ []) (sym item)
@@ -104,18 +117,23 @@ module _ (f : Formula → Formula) (test : Formula → Bool) (formulas : List Fo
     counted = let before : length (take i formulas) ≡ i = omega (arith, length-take i formulas) in omega (arith, before)
 
     -- it stays, or its change stands behind the others
-    either : IsNoted i x (f x) (test x) s t → (b : Bool) → test x ≡ b → ((f x ≡ x) × (t.changes ≡ s.changes)) ⊎ (t.changes ≡ s.changes ++ record { at = i; formula = f x; old_key = code x } ∷ [])
-    either noted true passes = inr (noted.change ∙ ap (λ b. s.changes ++ cond b (record { at = i; formula = f x; old_key = code x } ∷ []) []) passes)
-    either noted false fails = inl (noted.same fails, noted.change ∙ ap (λ b. s.changes ++ cond b (record { at = i; formula = f x; old_key = code x } ∷ []) []) fails ∙ append-nil s.changes)
+    either : IsNoted i x (f x) (test x) s t → (b : Bool) → test x ≡ b → ((f x ≡ x) × (t.changes ≡ s.changes)) ⊎ (t.changes ≡ s.changes ++ record { at = i; formula = f x } ∷ [])
+    either noted true passes = inr (noted.change ∙ ap (λ b. s.changes ++ cond b (record { at = i; formula = f x } ∷ []) []) passes)
+    either noted false fails = inl (noted.same fails, noted.change ∙ ap (λ b. s.changes ++ cond b (record { at = i; formula = f x } ∷ []) []) fails ∙ append-nil s.changes)
 
     pub rewritten_step : RewrittenTo i s → IsNoted i x (f x) (test x) s t → RewrittenTo next t
     unfolding front
     rewritten_step done noted = record {
       made = step_made done (either noted (test x) refl);
       within = step_within done (either noted (test x) refl);
-      changes = noted.change ∙ ap₂ (λ changes n. changes ++ cond (test x) (record { at = n; formula = f x; old_key = code x } ∷ []) []) done.changes counted
+      changes = noted.change ∙ ap₂ (λ changes n. changes ++ cond (test x) (record { at = n; formula = f x } ∷ []) []) done.changes counted
           ∙ sym (ap (replaced_from test f 0) one_more ∙ replaced_from-push test f 0 (take i formulas) x);
-      places = noted.listed ∙ ap₂ (λ ps n. ps ++ cond (test x) (n ∷ []) []) done.places counted ∙ sym (ap (places_where test) one_more ∙ places_from-push test 0 (take i formulas) x);
+      places = λ kept. let was = sym noted.keeps ∙ kept in
+          noted.listed was ∙ ap₂ (λ ps n. ps ++ cond (test x) (n ∷ []) []) (done.places was) counted
+          ∙ sym (ap (places_where test) one_more ∙ places_from-push test 0 (take i formulas) x);
+      olds = λ kept. let was = sym noted.keeps ∙ kept in
+          noted.key was ∙ ap₂ (λ os n. os ++ cond (test x) (record { at = n; key = code x } ∷ []) []) (done.olds was) counted
+          ∙ sym (ap (olds_from test 0) one_more ∙ olds_from-push test 0 (take i formulas) x);
     }
 
   -- ---- where those that pass stand at some places
@@ -155,20 +173,23 @@ module _ (f : Formula → Formula) (test : Formula → Bool) (formulas : List Fo
   ascend_sorted (k ∷ ks) sorted = (omega arith, ascend_after k ks sorted.0 sorted.1)
 
   -- before the first
-  not_begun : (s : RewritesState) → s.changes ≡ [] → s.places ≡ [] → RewrittenTo 0 s
-  not_begun s no_changes no_places = record {
+  not_begun : (s : RewritesState) → s.changes ≡ [] → s.places ≡ [] → s.old_keys ≡ [] → RewrittenTo 0 s
+  not_begun s no_changes no_places no_keys = record {
     made = ap (λ changes. changed_by changes formulas) no_changes;
     within = subst (AllByRecursion Within) (sym no_changes) tt;
     changes = no_changes;
-    places = no_places;
+    places = λ kept. no_places;
+    olds = λ kept. no_keys;
   }
 
   module _ (leaves : (k : ℕ) (x : Formula) → slice_get formulas k ≡ Some x → test x ≡ false → f x ≡ x) where
     stays : (i : ℕ) (x : Formula) (s : RewritesState) → f x ≡ x → test x ≡ false → IsNoted i x (f x) (test x) s s
     stays i x s same fails = record {
       same = λ e. same;
-      change = sym (append-nil s.changes) ∙ ap (λ b. s.changes ++ cond b (record { at = i; formula = f x; old_key = code x } ∷ []) []) (sym fails);
-      listed = sym (append-nil s.places) ∙ ap (λ b. s.places ++ cond b (i ∷ []) []) (sym fails);
+      change = sym (append-nil s.changes) ∙ ap (λ b. s.changes ++ cond b (record { at = i; formula = f x } ∷ []) []) (sym fails);
+      keeps = refl;
+      listed = λ kept. sym (append-nil s.places) ∙ ap (λ b. s.places ++ cond b (i ∷ []) []) (sym fails);
+      key = λ kept. sym (append-nil s.old_keys) ∙ ap (λ b. s.old_keys ++ cond b (record { at = i; key = code x } ∷ []) []) (sym fails);
     }
 
     item_at : (xs : List Formula) (i : ℕ) → i < length xs → (x : Formula) × (slice_get xs i ≡ Some x)
@@ -267,17 +288,17 @@ module _ (f : Formula → Formula) (test : Formula → Bool) (formulas : List Fo
             (past_to so_far.i (length formulas) s so_far.done (omega (arith, more)) (omega arith) (λ k x le lt e. none_passes so_far.i [] so_far.awaits k x le e refl)) (omega arith)
 
     -- where none passes there is nothing to do
-    pub none_changed : (s : RewritesState) → s.changes ≡ [] → s.places ≡ [] → ((k : ℕ) (x : Formula) → slice_get formulas k ≡ Some x → test x ≡ false) → Rewritten s
-    none_changed s no_changes no_places fail = all_looked [] s refl (record {
+    pub none_changed : (s : RewritesState) → s.changes ≡ [] → s.places ≡ [] → s.old_keys ≡ [] → ((k : ℕ) (x : Formula) → slice_get formulas k ≡ Some x → test x ≡ false) → Rewritten s
+    none_changed s no_changes no_places no_keys fail = all_looked [] s refl (record {
       i = 0;
-      done = not_begun s no_changes no_places;
+      done = not_begun s no_changes no_places no_keys;
       awaits = record { ascend = tt; passing = λ k x le e passes. absurd (clash (test x) passes (fail k x e)) };
     })
 
   -- where all await
-  pub none_looked : (places : BTreeSet ℕ) (left : List ℕ) (s : RewritesState) → left ≡ places.keys → s.changes ≡ [] → s.places ≡ [] → IsStrictlySortedBy nat_cmp places.keys → HasPassing test places formulas → RewrittenSoFar left s
-  none_looked places left s all no_changes no_places sorted has = subst (λ ks. RewrittenSoFar ks s) (sym all) (record {
+  pub none_looked : (places : BTreeSet ℕ) (left : List ℕ) (s : RewritesState) → left ≡ places.keys → s.changes ≡ [] → s.places ≡ [] → s.old_keys ≡ [] → IsStrictlySortedBy nat_cmp places.keys → HasPassing test places formulas → RewrittenSoFar left s
+  none_looked places left s all no_changes no_places no_keys sorted has = subst (λ ks. RewrittenSoFar ks s) (sym all) (record {
     i = 0;
-    done = not_begun s no_changes no_places;
+    done = not_begun s no_changes no_places no_keys;
     awaits = record { ascend = ascend_sorted places.keys sorted; passing = λ k x le e passes. same_test k places.keys ∙ has k x e passes };
   })

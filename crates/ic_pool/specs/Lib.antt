@@ -9,4 +9,5 @@ pub mod Mentions
 pub mod Pool
 pub mod Remade
 pub mod Rewrites
+pub mod Tested
 pub mod Topics

@@ -18,7 +18,7 @@ LeavesUntouched made scope formula = made.touches scope formula ≡ false → ma
 abbrev pub touched_becomes : Remade → Option ℕ → Formula → Option Formula
 touched_becomes made scope formula = if made.touches scope formula then Some (made.becomes scope formula) else None
 
--- the formulas that are touched, with what they become and the keys that they had, where the first stands at this place
+-- the formulas that are touched, with what they become, where the first stands at this place
 abbrev pub touched_from : Remade → Option ℕ → ℕ → List Formula → List Replacement
 touched_from made scope at formulas = replaced_from (made.touches scope) (made.becomes scope) at formulas
 

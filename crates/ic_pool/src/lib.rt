@@ -5,7 +5,8 @@
 //! says that equal keys are keys of equal formulas. `prepare` makes ready a change of all formulas, `made` says to what, and
 //! `apply` then can't fail. The four changes are `SheetNamed`, `SheetGone`, `DefinitionAdded` and `DefinitionGone`;
 //! `changed_formula` says what one makes of a formula. A `Remaking` makes formulas anew by a rule of the caller's:
-//! `prepare_remade` makes that ready. A pool has an index from what its formulas mention, told by topics, so each change
+//! `prepare_remade` makes that ready; a `FormulaTest` is a test of the caller's, and `has_passing` tells whether a formula
+//! passes. A pool has an index from what its formulas mention, told by topics, so each change
 //! and each rule names the topics that it is about. `places_of_sheet` and `places_of_name` tell by it where a sheet or a
 //! definition is mentioned.
 #![tactic(auto)]
@@ -23,6 +24,7 @@ mod pool;
 mod remaking;
 mod same;
 mod steps;
+mod testing;
 mod topics;
 
 pub use changes::{
@@ -39,4 +41,5 @@ pub use mentions::has_dangling;
 pub use pool::{Pool, Replacement, Rewrites, mentions_name, mentions_sheet};
 pub use remaking::{Remaking, remade_formula};
 pub use steps::Steps;
+pub use testing::FormulaTest;
 pub use topics::folded_topic;

@@ -11,6 +11,7 @@ mod index;
 mod mentioning;
 mod preparing;
 mod rewrites;
+mod testing;
 
 use crate::look_up::LookUp;
 use crate::mention_index::MentionIndex;
@@ -36,7 +37,8 @@ pub struct Pool {
     /// Whether that has each formula.
     knows_mentions: bool,
     /// Where it is whole: for each formula its first place, by its key. Where it isn't, a change has taken keys out, and
-    /// the places of the formulas that it made are late: the next write puts their keys in.
+    /// the places of the formulas that it made are late: the next write puts their keys in. Or a change that looked at most
+    /// formulas has given it up: the next write makes it anew.
     index: LookUp,
     is_whole: bool,
     /// The place where `place` found or put a formula last, while it is the first one of an equal formula.
@@ -295,8 +297,8 @@ impl Pool {
     }
 
     /// Rewrites its formulas, each in its place, also where two become equal. Where some formula becomes another the
-    /// look-up lacks those that did, until `make_whole` is called; else it stays. It needs no memory: where there is none
-    /// for the index by mention, later changes look at all formulas.
+    /// look-up lacks those that did, or all, where the change looked at half of them or more, until `make_whole` is called;
+    /// else it stays. It needs no memory: where there is none for the index by mention, later changes look at all formulas.
     pub fn apply(&mut self, rewrites: Rewrites)
         requires { FitsPool rewrites self.old.formulas }
         ensures formulas { self.new.formulas ≡ rewritten_by rewrites self.old.formulas }
@@ -307,15 +309,15 @@ impl Pool {
         }
     }
 
-    /// The same where some formula becomes another: its key goes out of the look-up, and its place is late.
+    /// The same where some formula becomes another: its key goes out of the look-up, and its place is late. Where no keys are
+    /// kept, the look-up is given up.
     fn rewrite(&mut self, mut rewrites: Rewrites)
         requires fits { FitsPool rewrites self.old.formulas }
         requires some { changes_nothing rewrites ≡ false }
         ensures formulas { self.new.formulas ≡ rewritten_by rewrites self.old.formulas }
         ensures whole { self.new.is_whole ≡ (self.old.is_whole && changes_nothing rewrites) }
     {
-        rewrites.take_out(&mut self.index);
-        self.knows_rest &= rewrites.move_places(&mut self.late);
+        self.knows_rest &= rewrites.take_out(self.alloc, &mut self.index, &mut self.late);
         self.is_whole = false;
         self.last = None;
         self.knows_mentions &= rewrites.note_in(&mut self.mentions).is_ok();

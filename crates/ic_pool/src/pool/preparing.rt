@@ -1,5 +1,5 @@
 //! What a change will do to the formulas of a pool, told before any of them changes.
-ghost use Rattle.std.specs.Prelude.{◌≡◌, IfOk, map, true};
+ghost use Rattle.std.specs.Prelude.{◌≡◌, ◌<◌, ◌≤◌, ◌+◌, IfOk, false, map, true};
 ghost use Rattle.std.specs.List.{AllByRecursion};
 ghost use Rattle.ic_pool.specs.MentionPlaces.{MentionsNone};
 ghost use Rattle.ic_pool.specs.Mentions.{formula_after};
@@ -26,7 +26,7 @@ impl Pool {
         ensures fits { IfOk result (λ w. FitsPool w self.now.formulas) }
     {
         if self.formulas.is_empty() {
-            return Ok(Rewrites::new(self.alloc));
+            return Ok(Rewrites::new(self.alloc, false));
         }
         self.prepare_about(&[change.topic()], change, scope)
     }
@@ -45,10 +45,18 @@ impl Pool {
         ensures fits { IfOk result (λ w. FitsPool w self.now.formulas) }
     {
         if self.mentions_none(topics) {
-            return Ok(Rewrites::new(self.alloc));
+            return Ok(Rewrites::new(self.alloc, false));
         }
         let places = self.places_of(topics)?;
-        rewrites_at(self.alloc, &self.formulas, &places, change, scope)
+        let keeps_keys = self.knows_rest && are_few(places.len(), self.formulas.len());
+        rewrites_at(
+            self.alloc,
+            &self.formulas,
+            &places,
+            change,
+            scope,
+            keeps_keys,
+        )
     }
 
     /// What becomes of its formulas that are made anew, if the rule leaves each that it doesn't touch.
@@ -65,7 +73,7 @@ impl Pool {
         ensures fits { IfOk result (λ w. FitsPool w self.now.formulas) }
     {
         if self.formulas.is_empty() {
-            return Ok(Rewrites::new(self.alloc));
+            return Ok(Rewrites::new(self.alloc, false));
         }
         let (one, other) = remaking.topics();
         self.remade_about(&[one, other], remaking, scope)
@@ -88,10 +96,18 @@ impl Pool {
         ensures fits { IfOk result (λ w. FitsPool w self.now.formulas) }
     {
         if self.mentions_none(topics) {
-            return Ok(Rewrites::new(self.alloc));
+            return Ok(Rewrites::new(self.alloc, false));
         }
         let places = self.places_of(topics)?;
-        rewrites_remade(self.alloc, &self.formulas, &places, remaking, scope)
+        let keeps_keys = self.knows_rest && are_few(places.len(), self.formulas.len());
+        rewrites_remade(
+            self.alloc,
+            &self.formulas,
+            &places,
+            remaking,
+            scope,
+            keeps_keys,
+        )
     }
 
     /// Whether it is known that no formula mentions something with one of these topics. It takes no memory.
@@ -103,4 +119,13 @@ impl Pool {
         }
         self.mentions.has_none(topics)
     }
+}
+
+/// Whether fewer than half of so many formulas are looked at. Only then it costs less to take the keys of those that change
+/// out of a look-up, and to put their new ones in, than to make it anew.
+fn are_few(looked_at: usize, count: usize) -> bool
+    ensures few { result ≡ true → looked_at + looked_at < count }
+    ensures many { result ≡ false → count ≤ looked_at + looked_at }
+{
+    looked_at < count - count / 2
 }

@@ -1,7 +1,9 @@
-ghost use Rattle.std.specs.Prelude.{◌≡◌, ◌<◌, ◌++◌, [], ◌∷◌, true, is_some, length, map, set, IfOk, OnOk};
+ghost use Rattle.std.specs.Prelude.{◌≡◌, ◌<◌, ◌++◌, [], ◌∷◌, true, false, is_some, length, map, set, IfOk, OnOk};
 ghost use Rattle.std.specs.List.{AllByRecursion};
 ghost use Rattle.std.specs.Option.{unwrap_or};
 ghost use Rattle.ic_laws.specs.declared.tree.Formula.{Formula};
+ghost use Rattle.ic_pool.specs.Code.{code};
+ghost use Rattle.ic_pool.specs.LookUp.{IsEmpty};
 ghost use Rattle.ic_pool.specs.MentionPlaces.{HasAt, HasPassing, KeepsAll};
 ghost use Rattle.ic_pool.specs.Mentions.{formula_after, is_changed_by};
 ghost use Rattle.ic_pool.specs.Pool.{dangling_count};
@@ -24,19 +26,12 @@ pub struct Replacement {
     pub at: usize,
     /// What it becomes.
     pub formula: Formula,
-    /// The key that it had.
-    old_key: HashedKey,
 }
 
 impl Drop for Replacement {
     fn drop(self) {
-        let Self {
-            at: _,
-            formula,
-            old_key,
-        } = self;
+        let Self { at: _, formula } = self;
         drop(formula);
-        drop(old_key);
     }
 }
 
@@ -48,12 +43,7 @@ impl Replacement {
         ensures formulas { formulas.new ≡ set formulas.old self.at self.formula }
         ensures counted { result ≡ dangling_count formulas.new }
     {
-        let Self {
-            at,
-            formula,
-            old_key,
-        } = self;
-        drop(old_key);
+        let Self { at, formula } = self;
         let others = dangling - dangling_weight(&formulas[at]);
         let weight = dangling_weight(&formula);
         formulas[at] = formula;
@@ -61,18 +51,37 @@ impl Replacement {
     }
 }
 
+/// The key of a formula that becomes another.
+#[derive(Drop)]
+struct OldKey {
+    /// Where the formula stands, from 0.
+    at: usize,
+    /// The key that it has before.
+    key: HashedKey,
+}
+
 /// What is prepared for a pool before its formulas are rewritten, so that the rewriting itself can't fail.
 pub struct Rewrites {
     changes: Vec<Replacement>,
-    /// Their places, as a list that a pool takes over without memory.
+    /// Whether the pool's look-up stays for the other formulas; else it is given up, and the next two lists stay empty.
+    keeps_keys: bool,
+    /// The places of the changes, as a list that a pool takes over without memory.
     places: LinkedList<usize>,
+    /// The keys that the changed formulas had, in the order of the changes.
+    old_keys: Vec<OldKey>,
 }
 
 impl Drop for Rewrites {
     fn drop(self) {
-        let Self { changes, places } = self;
+        let Self {
+            changes,
+            keeps_keys: _,
+            places,
+            old_keys,
+        } = self;
         drop(changes);
         drop(places);
+        drop(old_keys);
     }
 }
 
@@ -86,7 +95,7 @@ impl Model for Rewrites {
 
     ghost coded = { Prim.hlevel (codes, formula.the_row.coded) };
 
-    ghost view = { λ w. record { changes = w.changes.items; places = w.places } };
+    ghost view = { λ w. record { changes = w.changes.items; keeps_keys = w.keeps_keys; places = w.places; old_keys = w.old_keys.items } };
 }
 
 impl Rewrites {
@@ -104,19 +113,28 @@ impl Rewrites {
         &self.changes
     }
 
-    /// Takes the keys that the changed formulas have out of a look-up.
-    pub(super) fn take_out(&self, index: &mut LookUp)
-        ensures { AreOut self.now.changes index.old index.new }
-    {
-        remove_keys(&self.changes, index);
-    }
-
-    /// Puts the places of the changed formulas behind these, and answers whether it did. It takes no memory, and does so
-    /// for lists of fewer than 2^63 places.
-    pub(super) fn move_places(&mut self, late: &mut LinkedList<usize>) -> bool
+    /// Takes the changed formulas out of a look-up by the keys that they had, puts their places behind the late ones, and
+    /// answers whether it did both, as it does for lists of fewer than 2^63 places. Where no keys are kept, it gives up the
+    /// look-up and the late places. It takes no memory.
+    pub(super) fn take_out(
+        &mut self,
+        alloc: Global,
+        index: &mut LookUp,
+        late: &mut LinkedList<usize>,
+    ) -> bool
         ensures changes { self.new.changes ≡ self.old.changes }
+        ensures out { self.old.keeps_keys ≡ true → AreOut self.old.old_keys index.old index.new }
+        ensures given_up { self.old.keeps_keys ≡ false → IsEmpty index.new }
+        ensures forgotten { self.old.keeps_keys ≡ false → late.new ≡ [] }
+        ensures kept { result ≡ true → self.old.keeps_keys ≡ true }
         ensures moved { result ≡ true → late.new ≡ late.old ++ self.old.places }
     {
+        if !self.keeps_keys {
+            *index = LookUp::new(alloc);
+            late.clear();
+            return false;
+        }
+        remove_keys(&self.old_keys, index);
         late.append(&mut self.places).is_ok()
     }
 
@@ -136,19 +154,29 @@ impl Rewrites {
         ensures formulas { formulas.new ≡ rewritten_by self formulas.old }
         ensures counted { result ≡ dangling_count formulas.new }
     {
-        let Rewrites { changes, places } = self;
+        let Rewrites {
+            changes,
+            keeps_keys: _,
+            places,
+            old_keys,
+        } = self;
         drop(places);
+        drop(old_keys);
         put_all(formulas, changes, dangling)
     }
 
-    /// No change.
-    pub(super) fn new(alloc: Global) -> Rewrites
+    /// No change. Whether keys will be kept is settled here.
+    pub(super) fn new(alloc: Global, keeps_keys: bool) -> Rewrites
         ensures changes { result.changes ≡ [] }
+        ensures keeps { result.keeps_keys ≡ keeps_keys }
         ensures places { result.places ≡ [] }
+        ensures keys { result.old_keys ≡ [] }
     {
         Rewrites {
             changes: Vec::new(alloc),
+            keeps_keys,
             places: LinkedList::new(alloc),
+            old_keys: Vec::new(alloc),
         }
     }
 
@@ -201,10 +229,33 @@ impl Rewrites {
         match becomes {
             None => Ok(()),
             Some(becomes) => {
-                let old_key = key_of(alloc, formula)?;
-                self.note_change(at, becomes, old_key)
+                self.note_old_key(alloc, at, formula)?;
+                self.note_change(at, becomes)
             }
         }
+    }
+
+    /// Puts the place and the key of a formula behind the others, where keys are kept.
+    fn note_old_key(
+        &mut self,
+        alloc: Global,
+        at: usize,
+        formula: &Formula,
+    ) -> Result<(), OutOfMemory>
+        ensures changes { self.new.changes ≡ self.old.changes }
+        ensures keeps { self.new.keeps_keys ≡ self.old.keeps_keys }
+        ensures listed { OnOk result (self.old.keeps_keys ≡ true
+            → self.new.places ≡ self.old.places ++ at ∷ []) }
+        ensures key { OnOk result (self.old.keeps_keys ≡ true → self.new.old_keys
+            ≡ self.old.old_keys ++ record { at = at; key = code formula.now } ∷ []) }
+    {
+        if !self.keeps_keys {
+            return Ok(());
+        }
+        let key = key_of(alloc, formula)?;
+        self.old_keys.push(OldKey { at, key })?;
+        self.places.push_back(at)?;
+        Ok(())
     }
 
     /// Looks at the formula at a place of these, where there is one.
@@ -245,36 +296,25 @@ impl Rewrites {
     }
 
     /// Puts a change behind the others.
-    fn note_change(
-        &mut self,
-        at: usize,
-        formula: Formula,
-        old_key: HashedKey,
-    ) -> Result<(), OutOfMemory>
+    fn note_change(&mut self, at: usize, formula: Formula) -> Result<(), OutOfMemory>
         ensures { OnOk result (self.new ≡ record self.old {
-          changes = self.old.changes ++ record { at = at; formula = formula; old_key = old_key }
-              ∷ [];
-          places = self.old.places ++ at ∷ [];
+          changes = self.old.changes ++ record { at = at; formula = formula } ∷ [];
         }) }
     {
-        self.places.push_back(at)?;
-        self.changes.push(Replacement {
-            at,
-            formula,
-            old_key,
-        })?;
+        self.changes.push(Replacement { at, formula })?;
         Ok(())
     }
 }
 
 /// What a change does to formulas whose words are looked up from the sheet with this id, or from none. Those that it changes
-/// stand at some of these places.
+/// stand at some of these places. The keys that they had are kept where `keeps_keys` is true.
 pub fn rewrites_at<C: BookChange>(
     alloc: Global,
     formulas: &[Formula],
     places: &BTreeSet<usize>,
     change: &C,
     scope: Option<u32>,
+    keeps_keys: bool,
 ) -> Result<Rewrites, OutOfMemory>
     requires { HasPassing (is_changed_by (C.change change.now) scope) places.now formulas.now }
     ensures made { IfOk result (λ w. rewritten_by w formulas.now
@@ -282,7 +322,7 @@ pub fn rewrites_at<C: BookChange>(
     ensures listed { IfOk result (ListsChanged (C.change change.now) scope formulas.now) }
     ensures fits { IfOk result (λ w. FitsPool w formulas.now) }
 {
-    let mut rewrites = Rewrites::new(alloc);
+    let mut rewrites = Rewrites::new(alloc, keeps_keys);
     for at in places {
         rewrites.note_at(alloc, change, scope, formulas, *at)?;
     }
@@ -290,13 +330,14 @@ pub fn rewrites_at<C: BookChange>(
 }
 
 /// What becomes of formulas that are made anew, if the rule leaves each that it doesn't touch. Those that it touches stand
-/// at some of these places.
+/// at some of these places. The keys that they had are kept where `keeps_keys` is true.
 pub fn rewrites_remade<R: Remaking>(
     alloc: Global,
     formulas: &[Formula],
     places: &BTreeSet<usize>,
     remaking: &R,
     scope: Option<u32>,
+    keeps_keys: bool,
 ) -> Result<Rewrites, OutOfMemory>
     requires leaves { AllByRecursion (LeavesUntouched (R.made remaking.now) scope) formulas.now }
     requires places { HasPassing ((R.made remaking.now).touches scope) places.now formulas.now }
@@ -306,7 +347,7 @@ pub fn rewrites_remade<R: Remaking>(
         ≡ touched_from (R.made remaking.now) scope 0 formulas.now) }
     ensures fits { IfOk result (λ w. FitsPool w formulas.now) }
 {
-    let mut rewrites = Rewrites::new(alloc);
+    let mut rewrites = Rewrites::new(alloc, keeps_keys);
     for at in places {
         rewrites.note_remade_at(alloc, remaking, scope, formulas, *at)?;
     }
@@ -325,12 +366,12 @@ fn note_all(changes: &[Replacement], mentions: &mut MentionIndex) -> Result<(), 
     Ok(())
 }
 
-/// Takes the keys that these formulas have out of a look-up.
-fn remove_keys(changes: &[Replacement], index: &mut LookUp)
-    ensures { AreOut changes.now index.old index.new }
+/// Takes these keys out of a look-up, each with its place.
+fn remove_keys(olds: &[OldKey], index: &mut LookUp)
+    ensures { AreOut olds.now index.old index.new }
 {
-    for change in changes {
-        index.take_out(&change.old_key, change.at);
+    for old in olds {
+        index.take_out(&old.key, old.at);
     }
 }
 

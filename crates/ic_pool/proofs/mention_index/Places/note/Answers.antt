@@ -1,4 +1,4 @@
-use Rattle.std.proofs.Common.{◌≡◌, ap, sym, true, ◌∙◌}
+use Rattle.std.proofs.Common.{ap, ◌∙◌}
 use Rattle.std.specs.Prelude.{nat_eq}
 use Rattle.ic_pool.specs.Pool.{is_among}
 use Rattle.ic_pool.proofs.PlaceLemmas.{inserted_passes}

@@ -12,7 +12,7 @@ pub returns-then-mentions_none : goal.returns-then-mentions_none
 returns-then-mentions_none g c =
     let nothing =
     none_changed (formula_after (g.C.BookChange.change c.args.change.now) c.args.scope) (is_changed_by (g.C.BookChange.change c.args.change.now) c.args.scope) c.args.self.now.formulas (λ k x e fails. untouched_stays (g.C.BookChange.change c.args.change.now) c.args.scope x fails)
-    c.new.result c.new.ensures.changes c.new.ensures.places (λ k x e. c.requires c.args.scope x (c.mentions_none.ensures c.if-mentions_none.true k x e)) in
+    c.new.result c.new.ensures.changes c.new.ensures.places c.new.ensures.keys (λ k x e. c.requires c.args.scope x (c.mentions_none.ensures c.if-mentions_none.true k x e)) in
     record { made = nothing.made; listed = nothing.listed; fits = nothing.fits }
 
 pub rewrites_at-requires : goal.rewrites_at-requires

@@ -11,5 +11,5 @@ returns-then-is_empty g c =
     let counted = c.self.inside.formulas.ok.0 ∙ ap (λ (s : PoolState). length s.formulas) c.self.view_is in
     let nothing =
     none_changed ((g.R.Remaking.made c.args.remaking.now).becomes c.args.scope) ((g.R.Remaking.made c.args.remaking.now).touches c.args.scope) c.args.self.now.formulas (λ k x e. all_at (LeavesUntouched (g.R.Remaking.made c.args.remaking.now) c.args.scope) c.args.self.now.formulas k x c.requires e)
-    c.new.result c.new.ensures.changes c.new.ensures.places (λ k x e. absurd (none_there c.args.self.now.formulas _ counted (sym c.is_empty.ensures ∙ c.if-is_empty.true) k x e)) in
+    c.new.result c.new.ensures.changes c.new.ensures.places c.new.ensures.keys (λ k x e. absurd (none_there c.args.self.now.formulas _ counted (sym c.is_empty.ensures ∙ c.if-is_empty.true) k x e)) in
     record { made = nothing.made; listed = nothing.changes; fits = nothing.fits }

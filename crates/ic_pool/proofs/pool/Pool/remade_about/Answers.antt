@@ -12,7 +12,7 @@ pub returns-then-mentions_none : goal.returns-then-mentions_none
 returns-then-mentions_none g c =
     let nothing =
     none_changed ((g.R.Remaking.made c.args.remaking.now).becomes c.args.scope) ((g.R.Remaking.made c.args.remaking.now).touches c.args.scope) c.args.self.now.formulas (λ k x e. all_at (LeavesUntouched (g.R.Remaking.made c.args.remaking.now) c.args.scope) c.args.self.now.formulas k x c.requires.leaves e)
-    c.new.result c.new.ensures.changes c.new.ensures.places (λ k x e. c.requires.about c.args.scope x (c.mentions_none.ensures c.if-mentions_none.true k x e)) in
+    c.new.result c.new.ensures.changes c.new.ensures.places c.new.ensures.keys (λ k x e. c.requires.about c.args.scope x (c.mentions_none.ensures c.if-mentions_none.true k x e)) in
     record { made = nothing.made; listed = nothing.changes; fits = nothing.fits }
 
 pub rewrites_remade-requires-clause-places : goal.rewrites_remade-requires-clause-places

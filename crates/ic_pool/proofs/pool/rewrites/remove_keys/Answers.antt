@@ -2,12 +2,12 @@ use Rattle.std.proofs.Common.{refl}
 use Rattle.ic_pool.proofs.LateLemmas.{all_out, one_out}
 use Rattle.ic_pool.proofs.pool.rewrites.remove_keys.Goals as goal
 
-pub loop-change-init : goal.loop-change-init
-loop-change-init c = record { by_hash = λ hash. refl; by_key = λ key. refl }
+pub loop-old-init : goal.loop-old-init
+loop-old-init c = record { by_hash = λ hash. refl; by_key = λ key. refl }
 
-pub loop-change-preserved : goal.loop-change-preserved
-loop-change-preserved c =
-    one_out c.args.index.now c.loop-change.index c.take_out.new.self c.args.changes.now c.loop-change.change-index c.change-item.result c.loop-change-test.true c.change-item.is c.loop-change.invariant c.take_out.ensures
+pub loop-old-preserved : goal.loop-old-preserved
+loop-old-preserved c =
+    one_out c.args.index.now c.loop-old.index c.take_out.new.self c.args.olds.now c.loop-old.old-index c.old-item.result c.loop-old-test.true c.old-item.is c.loop-old.invariant c.take_out.ensures
 
 pub returns : goal.returns
-returns c = all_out c.args.index.now c.loop-change.index c.args.changes.now c.loop-change.change-index c.loop-change-test.false c.loop-change.invariant
+returns c = all_out c.args.index.now c.loop-old.index c.args.olds.now c.loop-old.old-index c.loop-old-test.false c.loop-old.invariant

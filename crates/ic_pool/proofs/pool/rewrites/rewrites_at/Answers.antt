@@ -9,7 +9,7 @@ use Rattle.ic_pool.proofs.pool.rewrites.rewrites_at.Goals as goal
 pub loop-at-init : goal.loop-at-init
 loop-at-init g c =
     let gives = c.into_iter-at-iterator.ensures.into_iter_gives in
-    none_looked (formula_after (g.C.BookChange.change c.args.change.now) c.args.scope) (is_changed_by (g.C.BookChange.change c.args.change.now) c.args.scope) c.args.formulas.now c.args.places.now c.into_iter-at-iterator.result c.new-rewrites.result gives.0 c.new-rewrites.ensures.changes c.new-rewrites.ensures.places gives.4 c.requires
+    none_looked (formula_after (g.C.BookChange.change c.args.change.now) c.args.scope) (is_changed_by (g.C.BookChange.change c.args.change.now) c.args.scope) c.args.formulas.now c.args.places.now c.into_iter-at-iterator.result c.new-rewrites.result gives.0 c.new-rewrites.ensures.changes c.new-rewrites.ensures.places c.new-rewrites.ensures.keys gives.4 c.requires
 
 pub loop-at-preserved : goal.loop-at-preserved
 loop-at-preserved g c =

@@ -9,7 +9,7 @@ use Rattle.ic_pool.proofs.pool.rewrites.rewrites_remade.Goals as goal
 pub loop-at-init : goal.loop-at-init
 loop-at-init g c =
     let gives = c.into_iter-at-iterator.ensures.into_iter_gives in
-    none_looked ((g.R.Remaking.made c.args.remaking.now).becomes c.args.scope) ((g.R.Remaking.made c.args.remaking.now).touches c.args.scope) c.args.formulas.now c.args.places.now c.into_iter-at-iterator.result c.new-rewrites.result gives.0 c.new-rewrites.ensures.changes c.new-rewrites.ensures.places gives.4 c.requires.places
+    none_looked ((g.R.Remaking.made c.args.remaking.now).becomes c.args.scope) ((g.R.Remaking.made c.args.remaking.now).touches c.args.scope) c.args.formulas.now c.args.places.now c.into_iter-at-iterator.result c.new-rewrites.result gives.0 c.new-rewrites.ensures.changes c.new-rewrites.ensures.places c.new-rewrites.ensures.keys gives.4 c.requires.places
 
 pub loop-at-preserved : goal.loop-at-preserved
 loop-at-preserved g c =
