@@ -2,7 +2,7 @@
 use Rattle.std.proofs.Common.{◌≡◌, ◌<◌, ◌+◌, ℕ, List, [], ◌∷◌, ◌++◌, Bool, true, false, ◌||◌, cond, get_or, length, map, refl, sym, ap, ap₂, ◌∙◌, remove, subst, suc, take}
 use Rattle.std.specs.Prelude.{flat_map, nat_eq}
 use Rattle.std.specs.BTreeSet.{BTreeSet, contains}
-use Rattle.std.specs.List.{AllByRecursion}
+use Rattle.std.specs.List.{AllByRecursion, list_any}
 use Rattle.std.specs.Ordering.{nat_cmp}
 use Rattle.std.proofs.lemmas.List.{take_more}
 use Rattle.std.proofs.lemmas.List.Folds.{list_any-append}
@@ -22,10 +22,12 @@ use Rattle.ic_pool.proofs.ChangeLemmas.{untouched_stays}
 use Rattle.ic_pool.proofs.KeyLemmas.{clash}
 use Rattle.ic_pool.specs.Pool.{is_among}
 use Rattle.ic_pool.specs.Remade.{LeavesUntouched, Remade, TouchesAbout}
+use Rattle.ic_pool.specs.Tested.{PassesAbout, Test}
 use Rattle.ic_pool.specs.Topics.{SparesOthers, mentions_some, topics_in, topics_step, tree_topics, word_topics}
 use Rattle.ic_definitions.specs.Bodies.{with_bodies}
 use Rattle.ic_definitions.specs.Mentioned.{HasMore, KnowsBodies, KnowsFormula}
 use Rattle.ic_definitions.specs.Remade.{remade_body, touched_bodies}
+use Rattle.ic_definitions.specs.Tested.{passes_body}
 use Rattle.ic_definitions.specs.declared.bodies.NewBody.{NewBody}
 use Rattle.ic_definitions.specs.declared.mentioned.Mentioned.{Mentioned}
 use Rattle.ic_definitions.proofs.AppendedNames.{all_taken}
@@ -170,6 +172,10 @@ none_touched made topics at [] about none = refl
 none_touched made topics at (d ∷ ds) about none =
     none_touched made topics (suc at) ds about none.1
     ∙ sym (ap (λ (b : Bool). cond b (record { at = at; body = made.becomes d.scope d.body } ∷ touched_bodies made (suc at) ds) (touched_bodies made (suc at) ds)) (about d.scope d.body none.0))
+
+pub none_passes : (test : Test) (topics : List ℕ) (ds : List Definition) → PassesAbout test topics → AllByRecursion (λ d. mentions_some topics d.body ≡ false) ds → false ≡ list_any (passes_body test) ds
+none_passes test topics [] about none = refl
+none_passes test topics (d ∷ ds) about none = none_passes test topics ds about none.1 ∙ sym (ap (λ b. b || list_any (passes_body test) ds) (about d.scope d.body none.0))
 
 -- ---- bodies that come, go and change
 

@@ -7,6 +7,7 @@ ghost use Rattle.ic_definitions.specs.Named.{key_in, scopes_of};
 mod changes;
 mod named;
 mod preparing;
+mod testing;
 
 use crate::Definition;
 use crate::mentioned::Mentioned;

@@ -19,4 +19,5 @@ pub mod SearchLemmas
 pub mod ShiftLemmas
 pub mod SortLemmas
 pub mod SpotLemmas
+pub mod TestedLemmas
 pub mod WriteLemmas

@@ -202,7 +202,7 @@ dangles_found id (x ∷ xs) s d e = step (nat_eq x.id id) refl e (dangles_found 
 
 -- ---- what is known of each sheet
 
-found_here : (front back : List HeldSheet) (s : HeldSheet) → list_any (nat_eq s.id) (ids (front ++ back)) ≡ false → find (λ x. nat_eq x.id s.id) (front ++ s ∷ back) ≡ Some s
+pub found_here : (front back : List HeldSheet) (s : HeldSheet) → list_any (nat_eq s.id) (ids (front ++ back)) ≡ false → find (λ x. nat_eq x.id s.id) (front ++ s ∷ back) ≡ Some s
 found_here [] back s free = ap (λ b. cond b (Some s) (find (λ x. nat_eq x.id s.id) back)) (nat_eq_equiv.refl s.id)
 found_here (x ∷ front) back s free =
     let parts = or_parts (nat_eq s.id x.id) (list_any (nat_eq s.id) (ids (front ++ back))) free in

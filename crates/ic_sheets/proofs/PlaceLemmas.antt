@@ -11,12 +11,13 @@ use Rattle.std.proofs.lemmas.Map.Keys.{IsDistinct-IsPermutation, IsDistinct-head
 use Rattle.ic_laws.specs.Greatest.{greatest}
 use Rattle.ic_sheets.specs.Index.{AreAtIndexes}
 use Rattle.ic_sheets.specs.Search.{index_with_id}
-use Rattle.ic_sheets.specs.Spots.{index_at, lowered, moved_index, raised}
+use Rattle.ic_sheets.specs.Spots.{index_at, lowered, moved_index, raised, renumbered}
 use Rattle.ic_sheets.specs.declared.sheet.Sheet.{Sheet}
 use Rattle.ic_sheets.specs.declared.sheets.spots.Spot.{Spot}
 use Rattle.ic_sheets.specs.declared.sheets.spots.Spots.{Spots}
 use Rattle.ic_sheets.proofs.IndexLemmas.{clash, split_at}
 use Rattle.ic_sheets.proofs.SearchLemmas.{ids}
+use Rattle.ic_sheets.proofs.SpotLemmas.{replaced}
 
 -- ---- the plain search
 
@@ -147,6 +148,40 @@ alone front back s d =
 back_again : (at k : ℕ) → lowered at (raised at k) ≡ k
 back_again at k = grind arith
 
+-- ---- some of the sheets get their indexes
+
+-- none so far
+pub none_renumbered : (from : ℕ) (at had : Option ℕ) → had ≡ renumbered from from at had
+none_renumbered from None had = refl
+none_renumbered from (Some at) had = grind arith
+
+there_within : (id : ℕ) (sheets : List Sheet) (k : ℕ) → index_with_id id sheets ≡ Some k → k < length sheets
+there_within id [] k e = cc
+there_within id (s ∷ sheets) k e = step (nat_eq s.id id) (index_with_id id sheets) (there_within id sheets) e
+  where
+    step : (b : Bool) (o : Option ℕ) → ((j : ℕ) → o ≡ Some j → j < length sheets) → cond b (Some 0) (option_map suc o) ≡ Some k → k < suc (length sheets)
+    step true o rest e = let first : 0 ≡ k = cc in omega (arith, first)
+    step false None rest e = cc
+    step false (Some j) rest e = let next : suc j ≡ k = cc in let less = rest j refl in omega (arith, less, next)
+
+-- where a sheet was taken away before these
+pub lowered_renumbered : (index : ℕ) (sheets : List Sheet) (q : ℕ)
+    → renumbered index (length sheets) (index_with_id q sheets) (option_map (raised index) (index_with_id q sheets)) ≡ index_with_id q sheets
+lowered_renumbered index sheets q = step (index_with_id q sheets) (there_within q sheets)
+  where
+    step : (o : Option ℕ) → ((k : ℕ) → o ≡ Some k → k < length sheets) → renumbered index (length sheets) o (option_map (raised index) o) ≡ o
+    step None within = refl
+    step (Some k) within = let lt : k < length sheets = within k refl in grind (arith, lt)
+
+pub lowered_back : (index : ℕ) (o : Option ℕ) → option_map (lowered index) (option_map (raised index) o) ≡ o
+lowered_back index None = refl
+lowered_back index (Some k) = ap (λ n. Some n) (back_again index k)
+
+-- where one of them was put to another index
+pub moved_back : (from to : ℕ) (o : Option ℕ) → option_map (moved_index from to) (option_map (moved_index to from) o) ≡ o
+moved_back from to None = refl
+moved_back from to (Some k) = grind arith
+
 -- ---- a sheet goes
 
 longer : (s : Sheet) (xs ys : List Sheet) → length (xs ++ s ∷ ys) ≡ suc (length (xs ++ ys))
@@ -187,40 +222,57 @@ module _ (sheets : List Sheet) (at : ℕ) (s : Sheet) (differ : IsDistinct nat_e
   pub there : (q : ℕ) → index_with_id q sheets ≡ cond (nat_eq s.id q) (Some at) (option_map (raised at) (index_with_id q (front ++ back)))
   there q = ap (index_with_id q) parts ∙ place_middle front back s free q ∙ ap (λ n. cond (nat_eq s.id q) (Some n) (option_map (raised n) (index_with_id q (front ++ back)))) counted
 
-  left : (q : ℕ) (b : Bool) → nat_eq s.id q ≡ b → (o : Option ℕ) → index_with_id q (front ++ back) ≡ o → option_map (lowered at) (cond b None (cond b (Some at) (option_map (raised at) o))) ≡ o
-  left q true e o f = sym (ap (λ k. index_with_id k (front ++ back)) (sym (eqb-true s.id q e)) ∙ no_place s.id (front ++ back) free) ∙ f
-  left q false e None f = refl
-  left q false e (Some k) f = ap (λ n. Some n) (back_again at k)
+  left : (q : ℕ) (b : Bool) → nat_eq s.id q ≡ b → (o : Option ℕ) → index_with_id q (front ++ back) ≡ o
+      → cond b None (cond b (Some at) (option_map (raised at) o)) ≡ option_map (raised at) o
+  left q true e o f =
+      let none : o ≡ None = sym f ∙ ap (λ k. index_with_id k (front ++ back)) (sym (eqb-true s.id q e)) ∙ no_place s.id (front ++ back) free in
+      ap (option_map (raised at)) (sym none)
+  left q false e o f = refl
 
-  pub placed_lowered : (before between after : Spots) (list : List Sheet) → AreAtIndexes before sheets → list ≡ remove sheets at
+  -- where the others stand as it went
+  pub stand_raised : (before between : Spots) (list : List Sheet) → AreAtIndexes before sheets → list ≡ remove sheets at
       → ((q : ℕ) → index_at q between.list.items ≡ cond (nat_eq s.id q) None (index_at q before.list.items))
-      → ((q : ℕ) → index_at q after.list.items ≡ option_map (lowered at) (index_at q between.list.items)) → AreAtIndexes after list
-  placed_lowered before between after list placed removed out lower = record {
-    finds = λ q.
-        lower q ∙ ap (option_map (lowered at)) (out q ∙ ap (cond (nat_eq s.id q) None) (placed.finds q ∙ there q)) ∙ left q (nat_eq s.id q) refl (index_with_id q (front ++ back)) refl
-        ∙ sym (ap (index_with_id q) removed);
-  }
+      → (q : ℕ) → index_at q between.list.items ≡ option_map (raised at) (index_with_id q list)
+  stand_raised before between list placed removed out q =
+      out q ∙ ap (cond (nat_eq s.id q) None) (placed.finds q ∙ there q) ∙ left q (nat_eq s.id q) refl (index_with_id q (front ++ back)) refl
+      ∙ sym (ap (λ xs. option_map (raised at) (index_with_id q xs)) removed)
 
-  follows : (to : ℕ) (b : Bool) (o : Option ℕ) → option_map (moved_index at to) (cond b (Some at) (option_map (raised at) o)) ≡ cond b (Some to) (option_map (raised to) o)
-  follows to true o = ap (λ n. Some n) (goes_there at to)
+  follows : (to : ℕ) (b : Bool) (o : Option ℕ)
+      → cond b (Some at) (option_map (raised at) o) ≡ option_map (moved_index to at) (cond b (Some to) (option_map (raised to) o))
+  follows to true o = ap (λ n. Some n) (sym (goes_there to at))
   follows to false None = refl
-  follows to false (Some k) = ap (λ n. Some n) (others_follow at to k)
+  follows to false (Some k) = ap (λ n. Some n) (sym (others_follow to at k))
 
-  pub placed_moved : (before after : Spots) (list : List Sheet) (to : ℕ) → AreAtIndexes before sheets → to < length sheets → list ≡ insert (remove sheets at) to s
-      → ((q : ℕ) → index_at q after.list.items ≡ option_map (moved_index at to) (index_at q before.list.items)) → AreAtIndexes after list
-  placed_moved before after list to placed within put follow =
+  -- where all stand as it was put to another index
+  pub stand_moved : (before : Spots) (list : List Sheet) (to : ℕ) → AreAtIndexes before sheets → to < length sheets → list ≡ insert (remove sheets at) to s
+      → (q : ℕ) → index_at q before.list.items ≡ option_map (moved_index to at) (index_with_id q list)
+  stand_moved before list to placed within put q =
       let first : List Sheet = take to (front ++ back) in
       let rest : List Sheet = drop to (front ++ back) in
       let same : first ++ rest ≡ front ++ back = take-append-drop to (front ++ back) in
       let free_too : list_any (nat_eq s.id) (ids (first ++ rest)) ≡ false = ap (λ xs. list_any (nat_eq s.id) (ids xs)) same ∙ free in
       let all : length sheets ≡ suc (length (front ++ back)) = ap length parts ∙ longer s front back in
       let counted_too : length first ≡ to = omega (arith, length-take to (front ++ back), all) in
-      record {
-        finds = λ q.
-            follow q ∙ ap (option_map (moved_index at to)) (placed.finds q ∙ there q) ∙ follows to (nat_eq s.id q) (index_with_id q (front ++ back))
-            ∙ sym (place_middle first rest s free_too q ∙ ap₂ (λ n xs. cond (nat_eq s.id q) (Some n) (option_map (raised n) (index_with_id q xs))) counted_too same)
-            ∙ sym (ap (index_with_id q) put);
-      }
+      let there_too =
+      place_middle first rest s free_too q ∙ ap₂ (λ n xs. cond (nat_eq s.id q) (Some n) (option_map (raised n) (index_with_id q xs))) counted_too same in
+      placed.finds q ∙ there q ∙ follows to (nat_eq s.id q) (index_with_id q (front ++ back)) ∙ sym (ap (option_map (moved_index to at)) there_too)
+      ∙ sym (ap (λ xs. option_map (moved_index to at) (index_with_id q xs)) put)
+
+  -- where it stands, or one of the others
+  abbrev stands : Bool → Option ℕ → Option ℕ
+  stands b o = cond b (Some at) (option_map (raised at) o)
+
+  -- this sheet gets its index, too
+  pub next_renumbered : (from q : ℕ) (had : Option ℕ) → from ≤ at
+      → replaced (nat_eq s.id q) at (renumbered from at (index_with_id q sheets) had) ≡ renumbered from (at + 1) (index_with_id q sheets) had
+  next_renumbered from q had le =
+      ap (λ o. replaced (nat_eq s.id q) at (renumbered from at o had)) (there q) ∙ step (nat_eq s.id q) (index_with_id q (front ++ back))
+      ∙ sym (ap (λ o. renumbered from (at + 1) o had) (there q))
+    where
+      step : (b : Bool) (o : Option ℕ) → replaced b at (renumbered from at (stands b o) had) ≡ renumbered from (at + 1) (stands b o) had
+      step true o = grind (arith, le)
+      step false None = refl
+      step false (Some k) = grind (arith, le)
 
 -- ---- the greatest id
 

@@ -29,7 +29,7 @@ nothing_remade : (rule : Remade) (s : HeldSheet) → Stays rule s → IsRemade r
 nothing_remade rule s stays =
     let none =
     none_changed (rule.becomes (Some s.id)) (rule.touches (Some s.id)) s.pool.formulas (λ k x e. all_at (LeavesUntouched rule (Some s.id)) s.pool.formulas k x stays.1 e)
-    nothing refl refl (λ k x e. all_at (λ (f : Formula). rule.touches (Some s.id) f ≡ false) s.pool.formulas k x (none_passes (rule.touches (Some s.id)) s.pool.formulas stays.0) e) in
+    nothing refl refl refl (λ k x e. all_at (λ (f : Formula). rule.touches (Some s.id) f ≡ false) s.pool.formulas k x (none_passes (rule.touches (Some s.id)) s.pool.formulas stays.0) e) in
     record { made = none.made; listed = none.changes; fits = none.fits }
 
 pub each_remade : (rule : Remade) (now : List ℕ) (ps : Own) (sheets : List HeldSheet) → PreparesEach (IsRemade rule) ps now sheets → is_part now (ids sheets) ≡ true → IsDistinct nat_eq (ids sheets)

@@ -1,7 +1,7 @@
 -- The indexes of sheets by their ids: how one is found where the ids rise, and what becomes of all as one comes or goes.
-use Rattle.std.proofs.Common.{◌≡◌, ℕ, zero, suc, ◌+◌, ◌-◌, ◌<◌, ◌≤◌, List, [], ◌∷◌, map, Bool, true, false, cond, Some, None, option_map, refl, sym, ap, ◌∙◌, length, get_or, nat_eq, nat_lt, arith}
+use Rattle.std.proofs.Common.{◌≡◌, ℕ, zero, suc, ◌+◌, ◌-◌, ◌<◌, ◌≤◌, List, [], ◌∷◌, map, Bool, true, false, cond, Option, Some, None, option_map, refl, sym, ap, subst, ◌∙◌, length, get_or, nat_eq, nat_lt, arith}
 use Rattle.std.proofs.lemmas.List.{get_or_default}
-use Rattle.std.specs.List.{AllWithin, insert, remove, slice_get}
+use Rattle.std.specs.List.{AllWithin, insert, remove, slice_get, slice_set}
 use Rattle.std.specs.List.Sorted.{IsNonDecreasingBy}
 use Rattle.std.proofs.lemmas.Bool.{eq-eqb, eqb-true, ltb-false, ltb-true}
 use Rattle.ic_laws.specs.Greatest.{greatest}
@@ -131,6 +131,57 @@ out_found (s ∷ spots) least (suc k) id d r lt e q =
     ap (cond (nat_eq s.id q) (Some s.index)) (out_found spots (s.id + 1) k id d r.1 (omega (arith, lt)) e q)
     ∙ swap_choices (nat_eq s.id q) (nat_eq id q) (Some s.index) None (index_at q spots)
     (λ t u. let a = eqb-true s.id q t in let b = eqb-true id q u in omega (arith, a, b, more, e))
+
+-- ---- one gets another index
+
+-- the same spot with another index
+abbrev with_index : Spot → ℕ → Spot
+with_index s n = record s { index = n }
+
+-- what is found after this index was put in at an id, if that is the id that is looked for
+abbrev pub replaced : Bool → ℕ → Option ℕ → Option ℕ
+replaced same n found = cond same (option_map (λ (had : ℕ). n) found) found
+
+pub replaced_rises : (spots : List Spot) (least k n : ℕ) (s : Spot) → Rise least spots → k < length spots → s ≡ get_or spots k s
+    → Rise least (slice_set spots k (with_index s n))
+replaced_rises [] least k n s r lt read = tt
+replaced_rises (x ∷ spots) least zero n s r lt read =
+    let same : x.id ≡ s.id = cc in (subst (λ id. least ≤ id) same r.0, subst (λ id. Rise (id + 1) spots) same r.1)
+replaced_rises (x ∷ spots) least (suc k) n s r lt read = (r.0, replaced_rises spots (x.id + 1) k n s r.1 (omega (arith, lt)) read)
+
+pub replaced_found : (spots : List Spot) (least k n id : ℕ) (s : Spot) → Rise least spots → k < length spots → s ≡ get_or spots k s → s.id ≡ id
+    → (q : ℕ) → index_at q (slice_set spots k (with_index s n)) ≡ replaced (nat_eq id q) n (index_at q spots)
+replaced_found [] least k n id s r lt read e q = absurd (omega (arith, lt))
+replaced_found (x ∷ spots) least zero n id s r lt read e q =
+    let first : x.id ≡ id = cc in
+    ap (λ i. cond (nat_eq i q) (Some n) (index_at q spots)) e ∙ step (nat_eq id q) (index_at q spots)
+    ∙ ap (λ i. replaced (nat_eq id q) n (cond (nat_eq i q) (Some x.index) (index_at q spots))) (sym first)
+  where
+    step : (b : Bool) (rest : Option ℕ) → cond b (Some n) rest ≡ replaced b n (cond b (Some x.index) rest)
+    step true rest = refl
+    step false rest = refl
+replaced_found (x ∷ spots) least (suc k) n id s r lt read e q =
+    let more = at_least spots (x.id + 1) k s r.1 (omega (arith, lt)) in
+    let there : (get_or spots k s).id ≡ id = ap (λ (z : Spot). z.id) (sym read) ∙ e in
+    ap (cond (nat_eq x.id q) (Some x.index)) (replaced_found spots (x.id + 1) k n id s r.1 (omega (arith, lt)) read e q)
+    ∙ step (nat_eq x.id q) (nat_eq id q) (index_at q spots)
+    (λ t u. let a = eqb-true x.id q t in let b = eqb-true id q u in omega (arith, a, b, more, there))
+  where
+    step : (t b : Bool) (rest : Option ℕ) → (t ≡ true → b ≡ true → ⊥) → cond t (Some x.index) (replaced b n rest) ≡ replaced b n (cond t (Some x.index) rest)
+    step true true rest h = absurd (h refl refl)
+    step true false rest h = refl
+    step false true rest h = refl
+    step false false rest h = refl
+
+-- where the id has none
+pub none_replaced : (spots : List Spot) (n id : ℕ) → index_at id spots ≡ None → (q : ℕ) → index_at q spots ≡ replaced (nat_eq id q) n (index_at q spots)
+none_replaced spots n id none q = step (nat_eq id q) refl
+  where
+    step : (b : Bool) → nat_eq id q ≡ b → index_at q spots ≡ replaced b n (index_at q spots)
+    step true same =
+        let is : index_at q spots ≡ None = ap (λ i. index_at i spots) (sym (eqb-true id q same)) ∙ none in
+        is ∙ ap (option_map (λ (had : ℕ). n)) (sym is)
+    step false other = refl
 
 -- ---- all change
 

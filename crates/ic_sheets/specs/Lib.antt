@@ -7,3 +7,4 @@ pub mod Rewriting
 pub mod Search
 pub mod Sheet
 pub mod Spots
+pub mod Tested

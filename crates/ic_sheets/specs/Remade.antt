@@ -1,5 +1,5 @@
 -- What becomes of the formulas of all sheets where a rule makes them anew.
-use Rattle.std.specs.Prelude.{◌≡◌, ◌&&◌, ℕ, List, [], Bool, Some, map, nat_eq, not, true}
+use Rattle.std.specs.Prelude.{◌≡◌, ◌&&◌, ℕ, List, [], Bool, Some, false, map, nat_eq, not, true}
 use Rattle.std.specs.List.{AllByRecursion, IsDistinct, list_any}
 use Rattle.std.specs.Option.{unwrap_or}
 use Rattle.ic_pool.specs.Remade.{Remade, touched_from}
@@ -25,7 +25,7 @@ pub record IsRemade (rule : Remade) (rewrites : RewritesState) (sheet : HeldShee
 
 -- no formula becomes another
 abbrev pub nothing : RewritesState
-nothing = record { changes = []; places = [] }
+nothing = record { changes = []; keeps_keys = false; places = []; old_keys = [] }
 
 -- what was prepared for the sheet with this id: nothing, where it isn't named
 abbrev pub rewrites_of : List (ℕ × RewritesState) → ℕ → RewritesState

@@ -1,5 +1,5 @@
 -- At which indexes sheets stand, by their ids.
-use Rattle.std.specs.Prelude.{ℕ, ◌+◌, ◌-◌, ◌≤◌, List, [], ◌∷◌, ⊤, map, Option, Some, None, nat_eq, nat_lt, if◌then◌else◌}
+use Rattle.std.specs.Prelude.{ℕ, ◌+◌, ◌-◌, ◌≤◌, List, [], ◌∷◌, ⊤, map, Option, Some, None, nat_eq, nat_lt, option_map, if◌then◌else◌}
 use Rattle.std.specs.Coded.{×_prop, Unit-prop, le_prop}
 use Rattle.ic_sheets.specs.declared.sheet.Sheet.{Sheet}
 use Rattle.ic_sheets.specs.declared.sheets.spots.Spot.{Spot}
@@ -38,3 +38,8 @@ with_indexes f spots = map (λ (s : Spot). record s { index = f s.index }) spots
 abbrev pub spots_from : ℕ → List Sheet → List Spot
 spots_from index [] = []
 spots_from index (s ∷ sheets) = record { id = s.id; index = index } ∷ spots_from (index + 1) sheets
+
+-- what is found of a sheet, by where it stands and what was found before, once those from the first index up to the second have theirs
+abbrev pub renumbered : ℕ → ℕ → Option ℕ → Option ℕ → Option ℕ
+renumbered from to None had = had
+renumbered from to (Some at) had = if nat_lt at from then had else if nat_lt at to then option_map (λ q. at) had else had

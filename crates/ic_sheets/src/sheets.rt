@@ -17,6 +17,7 @@ mod rewriting;
 mod spots;
 mod started;
 mod tabs;
+mod testing;
 
 use crate::Sheet;
 use crate::mentioners::Mentioners;

@@ -182,7 +182,7 @@ impl Definitions {
     }
 
     /// The same of two topics.
-    fn may_mention_either(&self, topics: (u64, u64)) -> bool
+    pub(super) fn may_mention_either(&self, topics: (u64, u64)) -> bool
         ensures { result ≡ false → AllByRecursion
             (λ d. mentions_some (topics.0 ∷ topics.1 ∷ []) d.body ≡ false) self.now }
     {

@@ -142,7 +142,7 @@ impl Sheets {
         take_key(self.alloc, ids, sheet.name.as_str(), id);
         self.indexes.take_out(id);
         self.list.remove(index);
-        self.indexes.lower(index);
+        self.indexes.lower(&self.list, index);
         self.greatest = greatest_in(&self.indexes);
     }
 
@@ -156,7 +156,7 @@ impl Sheets {
         ensures finds { StillFinds self.old self.new }
     {
         shift(&mut self.list, from, to);
-        self.indexes.follow(from, to);
+        self.indexes.follow(&self.list, from, to);
     }
 }
 

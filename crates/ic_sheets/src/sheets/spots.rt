@@ -1,15 +1,19 @@
-//! At which index a sheet stands, found by its id. All is in one list, so that it is gone over at once where many sheets
-//! come to stand elsewhere.
+//! At which index a sheet stands, found by its id. All is in one list, in the order of the ids. Where few sheets come to
+//! stand elsewhere, the spot of each is found by halves and gets its new index; where many do, the list is gone over once.
 ghost use Rattle.std.specs.Prelude.{◌≡◌, ◌<◌, ◌≤◌, ℕ, [], IfOk, MatchOption, None, OnOk, Some, length, map, nat_eq, option_map, vec_capacity, vec_len, if◌then◌else◌};
 ghost use Rattle.std.specs.List.{AllWithin, HoldsAt, IsDistinct};
 ghost use Rattle.std.specs.Bool.{Decides};
 ghost use Rattle.ic_laws.specs.Greatest.{greatest};
-ghost use Rattle.ic_sheets.specs.Spots.{Rise, Rise-prop, index_at, lowered, moved_index, spots_from, with_indexes};
+ghost use Rattle.ic_sheets.specs.Spots.{Rise, Rise-prop, index_at, lowered, moved_index, raised, renumbered, spots_from, with_indexes};
 ghost use Rattle.ic_sheets.specs.Search.{index_with_id};
 
 use crate::Sheet;
 use ic_laws::{Boxed, OutOfMemory};
 use std::alloc::Global;
+
+/// To find the spot of a sheet by halves costs about as much as to go over this many spots: so much was measured in a
+/// book of 100,000 sheets.
+const SPOTS_PER_SEARCH: usize = 64;
 
 /// A sheet's id, and the index at which it stands, from 0.
 #[derive(Clone, Copy)]
@@ -107,20 +111,63 @@ impl Spots {
         }
     }
 
-    /// All indexes after this one are lowered by one.
-    pub fn lower(&mut self, index: usize)
-        ensures { (id : ℕ) → index_at id self.new.list.items
-            ≡ option_map (lowered index) (index_at id self.old.list.items) }
+    /// These are the sheets after the one at this index, from 0, was taken away: those behind it stand one before.
+    pub fn lower(&mut self, sheets: &[Boxed<Sheet>], index: usize)
+        requires differ { IsDistinct nat_eq (map (λ s. s.id) sheets.now) }
+        requires within { index ≤ length sheets.now }
+        requires before { (id : ℕ) → index_at id self.old.list.items
+            ≡ option_map (raised index) (index_with_id id sheets.now) }
+        ensures { (id : ℕ) → index_at id self.new.list.items ≡ index_with_id id sheets.now }
     {
-        lower_all(&mut self.list, index);
+        let end = sheets.len();
+        if end - index <= end / SPOTS_PER_SEARCH {
+            self.renumber(sheets, index, end);
+        } else {
+            lower_all(&mut self.list, index);
+        }
     }
 
-    /// All indexes follow the sheet that is put from one to another.
-    pub fn follow(&mut self, from: usize, to: usize)
-        ensures { (id : ℕ) → index_at id self.new.list.items
-            ≡ option_map (moved_index from to) (index_at id self.old.list.items) }
+    /// These are the sheets after one of them was put from an index to another, both from 0: those between stand one
+    /// before or one further.
+    pub fn follow(&mut self, sheets: &[Boxed<Sheet>], from: usize, to: usize)
+        requires differ { IsDistinct nat_eq (map (λ s. s.id) sheets.now) }
+        requires from { from < length sheets.now }
+        requires to { to < length sheets.now }
+        requires before { (id : ℕ) → index_at id self.old.list.items
+            ≡ option_map (moved_index to from) (index_with_id id sheets.now) }
+        ensures { (id : ℕ) → index_at id self.new.list.items ≡ index_with_id id sheets.now }
     {
-        move_all(&mut self.list, from, to);
+        let first = from.min(to);
+        let end = from.max(to) + 1;
+        if end - first <= sheets.len() / SPOTS_PER_SEARCH {
+            self.renumber(sheets, first, end);
+        } else {
+            move_all(&mut self.list, from, to);
+        }
+    }
+
+    /// Each of the sheets from one index up to another, both from 0, gets its index, where it has one.
+    fn renumber(&mut self, sheets: &[Boxed<Sheet>], from: usize, to: usize)
+        requires differ { IsDistinct nat_eq (map (λ s. s.id) sheets.now) }
+        requires ordered { from ≤ to }
+        requires within { to ≤ length sheets.now }
+        ensures { (id : ℕ) → index_at id self.new.list.items
+            ≡ renumbered from to (index_with_id id sheets.now) (index_at id self.old.list.items) }
+    {
+        for index in from..to {
+            self.replace(sheets[index].as_ref().id, index);
+        }
+    }
+
+    /// Puts another index in at an id, where there is one.
+    fn replace(&mut self, id: u32, index: usize)
+        ensures { (q : ℕ) → index_at q self.new.list.items
+            ≡ (if nat_eq id q then option_map (λ had. index) (index_at q self.old.list.items)
+            else index_at q self.old.list.items) }
+    {
+        if let Some(place) = found(&self.list, id) {
+            self.list[place].index = index;
+        }
     }
 }
 

@@ -1,12 +1,15 @@
-use Rattle.std.proofs.Common.{◌<◌, ◌∙◌, ap, sym, subst, refl, false, arith, vec_capacity, length}
+use Rattle.std.proofs.Common.{◌<◌, ◌∙◌, ap, sym, subst, refl, false, arith, vec_capacity, length, nat_eq, ℕ}
 use Rattle.std.proofs.lemmas.List.Edits.{length-remove}
+use Rattle.std.specs.List.{IsDistinct}
 use Rattle.ic_laws.proofs.core.Lists.{all_removed}
 use Rattle.ic_sheets.proofs.IndexLemmas.{read_boxed}
 use Rattle.ic_sheets.proofs.DanglingLemmas.{dangling_removed, listed_at, room_at}
 use Rattle.ic_sheets.proofs.KeyLemmas.{found_by_name}
-use Rattle.ic_sheets.proofs.KeptLemmas.{finds_removed, kept_removed}
-use Rattle.ic_sheets.proofs.PlaceLemmas.{placed_lowered}
-use Rattle.ic_sheets.specs.Index.{FindsSheets, IsFoundBy, LosesName}
+use Rattle.ic_sheets.proofs.KeptLemmas.{finds_removed, ids_removed, kept_removed}
+use Rattle.ic_sheets.proofs.PlaceLemmas.{stand_raised}
+use Rattle.ic_sheets.specs.Index.{AreAtIndexes, FindsSheets, IsFoundBy, LosesName}
+use Rattle.ic_sheets.proofs.SearchLemmas.{ids}
+use Rattle.ic_sheets.specs.Search.{index_with_id}
 use Rattle.ic_sheets.specs.Mentioners.{KnowsPool, KnowsSheets}
 use Rattle.ic_sheets.specs.declared.sheet.Sheet.{Sheet}
 use Rattle.ic_sheets.proofs.sheets.Sheets.take_out.Goals as goal
@@ -19,12 +22,29 @@ take_key-requires c =
     let finds = subst (FindsSheets c.args.ids.now) (sym c.self.view_is) c.requires.finds in
     subst (λ name. IsFoundBy name s.id c.args.ids.now) (sym c.as_str.ensures.characters) (found_by_name c.args.ids.now c.self.inside.greatest sheets c.args.index s c.self.invariant.0 finds lt (read_boxed c.self.inside.list.items c.args.index c.as_ref-sheet.ensures c.index.ensures))
 
+pub lower-requires-clause-differ : goal.lower-requires-clause-differ
+lower-requires-clause-differ c =
+    let differ = ids_removed c.self.inside.list.items c.args.index c.self.invariant.0.ids_differ in
+    subst (λ xs. IsDistinct nat_eq (ids xs)) (sym (c.deref.ensures.value ∙ c.remove.ensures.items)) differ
+
+pub lower-requires-clause-before : goal.lower-requires-clause-before
+lower-requires-clause-before c =
+    let sheets = c.self.inside.list.items in
+    let lt : c.args.index < length sheets = subst (λ xs. c.args.index < length xs) (sym c.self.view_is) c.requires.within in
+    let s = c.as_ref-sheet.result.now in
+    let read = read_boxed sheets c.args.index c.as_ref-sheet.ensures c.index.ensures in
+    let before = c.self.inside.indexes in
+    let left = c.deref.ensures.value ∙ c.remove.ensures.items in
+    let differ = c.self.invariant.0.ids_differ in
+    stand_raised sheets c.args.index s differ lt read before c.take_out.new.self c.deref.result.now c.self.invariant.1 left c.take_out.ensures
+
 pub invariant_of-self : goal.invariant_of-self
 invariant_of-self c =
     let sheets = c.self.inside.list.items in
     let s = c.as_ref-sheet.result.now in
     let lt : c.args.index < length sheets = subst (λ xs. c.args.index < length xs) (sym c.self.view_is) c.requires.within in
-    let placed = placed_lowered sheets c.args.index s c.self.invariant.0.ids_differ lt (read_boxed c.self.inside.list.items c.args.index c.as_ref-sheet.ensures c.index.ensures) c.self.inside.indexes c.take_out.new.self c.lower.new.self c.remove.new.self.items c.self.invariant.1 c.remove.ensures.items c.take_out.ensures c.lower.ensures in (
+    let finds = λ (id : ℕ). c.lower.ensures id ∙ ap (index_with_id id) c.deref.ensures.value in
+    let placed : AreAtIndexes c.lower.new.self c.remove.new.self.items = record { finds = finds } in (
       kept_removed c.self.inside.greatest c.greatest_in-self-inside.result sheets c.remove.new.self.items c.args.index s c.self.invariant.0 lt (read_boxed c.self.inside.list.items c.args.index c.as_ref-sheet.ensures c.index.ensures) c.remove.ensures.items
           (c.greatest_in-self-inside.ensures c.remove.new.self.items placed),
       placed,
