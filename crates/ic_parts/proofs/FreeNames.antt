@@ -1,5 +1,6 @@
 -- The least number of a name that no sheet has.
-use Rattle.std.proofs.Common.{◌≡◌, ℕ, zero, suc, ◌+◌, ◌<◌, ◌≤◌, min, List, length, Bool, true, false, not, Some, None, Result, Ok, Err, IfOk, OnOk, refl, sym, ap, subst, ◌∙◌, arith, inl, inr}
+use Rattle.std.proofs.Common.{◌≡◌, ℕ, zero, suc, ◌+◌, ◌<◌, ◌≤◌, min, List, length, Bool, true, false, not, Some, None, Result, Ok, Err, IfOk, OnOk}
+use Rattle.std.proofs.Common.{refl, sym, ap, subst, ◌∙◌, arith, inl, inr}
 use Rattle.std.proofs.lemmas.Bool.{cases_Bool, cases_lt}
 use Rattle.std.specs.List.{find, list_any, range_with_len}
 use Rattle.std.specs.Prelude.{unwrap_or}
@@ -30,7 +31,9 @@ module _ (taken : List (List ℕ)) (name : ℕ → List ℕ) where
 
   none_free : (k : ℕ) → AreTaken taken name k → find is_free (range_with_len 1 k) ≡ None
   none_free zero all = refl
-  none_free (suc k) all = none_more is_free 1 k (none_free k (λ n less. all n (omega (arith, less)))) (subst (λ n. is_free n ≡ false) (omega arith) (ap not (all k (omega arith))))
+  none_free (suc k) all =
+      none_more is_free 1 k (none_free k (λ n less. all n (omega (arith, less))))
+      (subst (λ n. is_free n ≡ false) (omega arith) (ap not (all k (omega arith))))
 
   pub taken_too : (k : ℕ) → AreTaken taken name k → list_any (agrees (name (k + 1))) taken ≡ true → AreTaken taken name (k + 1)
   taken_too k all e = λ n less.
@@ -41,12 +44,14 @@ module _ (taken : List (List ℕ)) (name : ℕ → List ℕ) where
 
   free_is : (k : ℕ) → AreTaken taken name k → list_any (agrees (name (k + 1))) taken ≡ false → k < length taken → free_among taken name ≡ k + 1
   free_is k all e less =
-      ap (λ o. unwrap_or o (suc (length taken))) (first_next is_free 1 k (suc (length taken)) (none_free k all) (subst (λ n. is_free n ≡ true) (omega arith) (ap not e)) (omega (arith, less))) ∙ omega arith
+      ap (λ o. unwrap_or o (suc (length taken)))
+      (first_next is_free 1 k (suc (length taken)) (none_free k all) (subst (λ n. is_free n ≡ true) (omega arith) (ap not e)) (omega (arith, less))) ∙ omega arith
 
   -- the last one
   free_last : AreTaken taken name (length taken) → free_among taken name ≡ length taken + 1
   free_last all = elim (cases_Bool (is_free (1 + length taken))) [
-    | inl t ↦ ap (λ o. unwrap_or o (suc (length taken))) (first_next is_free 1 (length taken) (suc (length taken)) (none_free (length taken) all) t (omega arith)) ∙ omega arith
+    | inl t ↦ ap (λ o. unwrap_or o (suc (length taken)))
+        (first_next is_free 1 (length taken) (suc (length taken)) (none_free (length taken) all) t (omega arith)) ∙ omega arith
     | inr f ↦ ap (λ o. unwrap_or o (suc (length taken))) (none_more is_free 1 (length taken) (none_free (length taken) all) f) ∙ omega arith
   ]
 
@@ -56,7 +61,8 @@ module _ (taken : List (List ℕ)) (name : ℕ → List ℕ) where
       let within : passed ≤ length taken = subst (λ m. passed ≤ m) all h.within in
       elim (cases_lt passed (length taken)) [
         | inl less ↦ free_is passed h.taken (h.next (subst (λ m. passed < m) (sym all) less)) less
-        | inr end ↦ let last : passed ≡ length taken = omega (arith, within, end) in ap (λ k. free_among taken name) last ∙ free_last (subst (AreTaken taken name) last h.taken) ∙ ap (λ k. k + 1) (sym last)
+        | inr end ↦ let last : passed ≡ length taken = omega (arith, within, end) in
+            ap (λ k. free_among taken name) last ∙ free_last (subst (AreTaken taken name) last h.taken) ∙ ap (λ k. k + 1) (sym last)
       ]
 
   -- what stops before its limit stops there under a higher one
@@ -68,6 +74,7 @@ module _ (taken : List (List ℕ)) (name : ℕ → List ℕ) where
   }
 
   -- so is the name that is written with it
-  pub passed_named : {E : Type 0} (r : Result ℕ E) (most : ℕ) (text : List ℕ) → most ≡ length taken → IfOk r (HasPassed taken name most) → IfOk r (λ passed. text ≡ name (passed + 1)) → OnOk r (text ≡ name (free_among taken name))
+  pub passed_named : {E : Type 0} (r : Result ℕ E) (most : ℕ) (text : List ℕ) → most ≡ length taken
+      → IfOk r (HasPassed taken name most) → IfOk r (λ passed. text ≡ name (passed + 1)) → OnOk r (text ≡ name (free_among taken name))
   passed_named (Ok passed) most text all h is = is ∙ ap name (sym (passed_free most passed all h))
   passed_named (Err e) most text all h is = tt

@@ -20,12 +20,14 @@ pub mod InForceLemmas
 pub mod InsertedDoes
 pub mod LentLemmas
 pub mod LineLemmas
+pub mod LoweredNotes
 pub mod MarkupLemmas
 pub mod MentionPairs
 pub mod ModelLemmas
 pub mod NameIndexLemmas
 pub mod NameLemmas
 pub mod NothingLemmas
+pub mod NumberBehind
 pub mod NumberedTexts
 pub mod PartLemmas
 pub mod PartUses

@@ -1,12 +1,15 @@
 -- What finds sheets and definitions by their names still does, where neither names nor keys change; what it finds; and that
--- numbers which are known to be taken still are, as sheets come and move.
-use Rattle.std.proofs.Common.{◌≡◌, ◌<◌, ◌∙◌, ℕ, List, [], ◌∷◌, ◌++◌, Bool, true, false, Option, Some, bytes_eq, cond, find, length, map, option_map, refl, sym, ap, ap₂, subst}
+-- numbers which are known to be taken still are, as sheets come and move; and the names that are left.
+use Rattle.std.proofs.Common.{◌≡◌, ◌<◌, ◌∙◌, ℕ, List, [], ◌∷◌, ◌++◌, Bool, true, false, Option, Some, bytes_eq, cond, find, length, map, option_map}
+use Rattle.std.proofs.Common.{refl, sym, ap, ap₂, subst}
 use Rattle.std.proofs.lemmas.List.Edits.{insert_end}
 use Rattle.std.proofs.lemmas.List.Sorted.{IsPermutation-map, list_any-IsPermutation}
 use Rattle.std.proofs.lemmas.Simd.{map-map}
 use Rattle.std.specs.List.{insert, list_any}
-use Rattle.ic_laws.proofs.core.Lists.{updated_unseen}
+use Rattle.std.specs.Prelude.{remove}
+use Rattle.ic_laws.proofs.core.Lists.{updated_seen, updated_unseen}
 use Rattle.ic_laws.proofs.core.SheetMoved.{moved_permutes}
+use Rattle.ic_laws.proofs.keeping.Removing.{remove_map}
 use Rattle.ic_laws.specs.Changes.{Change}
 use Rattle.ic_laws.specs.CoreBook.{Definition, spelling_of}
 use Rattle.ic_laws.specs.CoreStep.{moved, updated_at}
@@ -35,7 +38,11 @@ use Rattle.ic_parts.proofs.TakenLemmas.{knows_more}
 
 module _ (index : NameIndex) (ws now : List HeldSheet) (ds : List Definition) (was : IsIndexed index ws ds) where
   pub indexed_same : names now ≡ names ws → ids now ≡ ids ws → IsIndexed index now ds
-  indexed_same same_names same_ids = record { sheets = finds_same index.sheets ws now was.sheets same_names same_ids; names = was.names; numbers = subst (KnowsNumbers index.numbers) (sym same_names) was.numbers }
+  indexed_same same_names same_ids = record {
+    sheets = finds_same index.sheets ws now was.sheets same_names same_ids;
+    names = was.names;
+    numbers = subst (KnowsNumbers index.numbers) (sym same_names) was.numbers;
+  }
 
   -- one of them holds something else
   pub indexed_updated : (change : HeldSheet → HeldSheet) (at : ℕ) → now ≡ updated_at change at ws → ((s : HeldSheet) → named (change s) ≡ named s) → IsIndexed index now ds
@@ -83,14 +90,19 @@ module _ (index : NameIndex) (ws now : List HeldSheet) (ds : List Definition) (w
 module _ (numbers : TakenNumbers) (ws now : List HeldSheet) (known : KnowsNumbers numbers (names ws)) where
   -- a sheet came
   pub knows_put : (place : ℕ) (name : List ℕ) → names now ≡ insert (names ws) place name → KnowsNumbers numbers (names now)
-  knows_put place name is = subst (KnowsNumbers numbers) (sym is) (knows_more (names ws) (insert (names ws) place name) (λ q. inserted_passes (agrees q) (names ws) place name) numbers known)
+  knows_put place name is =
+      subst (KnowsNumbers numbers) (sym is)
+      (knows_more (names ws) (insert (names ws) place name) (λ q. inserted_passes (agrees q) (names ws) place name) numbers known)
 
   -- a change went over the formulas of the others
-  pub knows_inserted : (change : Change) (place : ℕ) (s : Sheet) → sheets_of now ≡ insert (map (changed_pool change) (sheets_of ws)) place s → KnowsNumbers numbers (names now)
+  pub knows_inserted : (change : Change) (place : ℕ) (s : Sheet) → sheets_of now ≡ insert (map (changed_pool change) (sheets_of ws)) place s
+      → KnowsNumbers numbers (names now)
   knows_inserted change place s is =
       knows_put place s.name
-      (sym (map-map (λ (x : Sheet). x.name) sheet_of now) ∙ ap (map (λ (x : Sheet). x.name)) is ∙ inserted_seen (λ (x : Sheet). x.name) (map (changed_pool change) (sheets_of ws)) place s
-      ∙ ap (λ (called : List (List ℕ)). insert called place s.name) (map-map (λ (x : Sheet). x.name) (changed_pool change) (sheets_of ws) ∙ map-map (λ (x : Sheet). x.name) sheet_of ws))
+      (sym (map-map (λ (x : Sheet). x.name) sheet_of now) ∙ ap (map (λ (x : Sheet). x.name)) is
+      ∙ inserted_seen (λ (x : Sheet). x.name) (map (changed_pool change) (sheets_of ws)) place s
+      ∙ ap (λ (called : List (List ℕ)). insert called place s.name)
+      (map-map (λ (x : Sheet). x.name) (changed_pool change) (sheets_of ws) ∙ map-map (λ (x : Sheet). x.name) sheet_of ws))
 
   pub knows_added : (change : Change) (s : Sheet) → sheets_of now ≡ map (changed_pool change) (sheets_of ws) ++ s ∷ [] → KnowsNumbers numbers (names now)
   knows_added change s is =
@@ -103,7 +115,28 @@ module _ (numbers : TakenNumbers) (ws now : List HeldSheet) (known : KnowsNumber
       knows_more (names ws) (names now)
       (λ q e.
       ap (λ (sheets : List HeldSheet). list_any (agrees q) (names sheets)) is
-      ∙ sym (list_any-IsPermutation (agrees q) (names ws) (names (moved from to ws)) (IsPermutation-map (λ (x : HeldSheet). x.name) ws (moved from to ws) (moved_permutes ws from to within))) ∙ e) numbers known
+      ∙ sym (list_any-IsPermutation (agrees q) (names ws) (names (moved from to ws))
+      (IsPermutation-map (λ (x : HeldSheet). x.name) ws (moved from to ws) (moved_permutes ws from to within))) ∙ e) numbers known
+
+-- ---- names of sheets, as one goes or gets another name, and a change goes over the formulas of the others
+
+module _ (ws now : List HeldSheet) (change : Change) where
+  pub names_removed : (index : ℕ) → sheets_of now ≡ remove (map (changed_pool change) (sheets_of ws)) index → names now ≡ remove (names ws) index
+  names_removed index is =
+      sym (map-map (λ (x : Sheet). x.name) sheet_of now) ∙ ap (map (λ (x : Sheet). x.name)) is
+      ∙ remove_map (λ (x : Sheet). x.name) (map (changed_pool change) (sheets_of ws)) index
+      ∙ ap (λ (called : List (List ℕ)). remove called index)
+      (map-map (λ (x : Sheet). x.name) (changed_pool change) (sheets_of ws) ∙ map-map (λ (x : Sheet). x.name) sheet_of ws)
+
+  pub names_renamed : (index : ℕ) (name : List ℕ)
+      → sheets_of now ≡ updated_at (λ (s : Sheet). record s { name = name }) index (map (changed_pool change) (sheets_of ws))
+      → names now ≡ updated_at (λ (was : List ℕ). name) index (names ws)
+  names_renamed index name is =
+      sym (map-map (λ (x : Sheet). x.name) sheet_of now) ∙ ap (map (λ (x : Sheet). x.name)) is
+      ∙ updated_seen (λ (x : Sheet). x.name) (λ (s : Sheet). record s { name = name }) (λ (was : List ℕ). name) (λ s. refl) index
+      (map (changed_pool change) (sheets_of ws))
+      ∙ ap (updated_at (λ (was : List ℕ). name) index)
+      (map-map (λ (x : Sheet). x.name) (changed_pool change) (sheets_of ws) ∙ map-map (λ (x : Sheet). x.name) sheet_of ws)
 
 -- ---- contents of which the formulas can mention the same
 

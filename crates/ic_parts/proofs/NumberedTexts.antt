@@ -1,5 +1,6 @@
 -- The texts of names with a number.
-use Rattle.std.proofs.Common.{◌≡◌, ℕ, ◌+◌, ◌-◌, ◌<◌, ◌^◌, List, [], ◌∷◌, ◌++◌, chars, length, take, OnOk, Result, String, string_bytes, append_assoc, ap, ap₂, subst, ◌∙◌, arith}
+use Rattle.std.proofs.Common.{◌≡◌, ℕ, ◌+◌, ◌-◌, ◌<◌, ◌^◌, List, [], ◌∷◌, ◌++◌, chars, length, take, OnOk, Result, String, string_bytes}
+use Rattle.std.proofs.Common.{append_assoc, ap, ap₂, subst, ◌∙◌, arith}
 use Rattle.std.proofs.lemmas.Str.{chars-nil}
 use Rattle.std.specs.declared.alloc.Global.{Global}
 use Rattle.std.specs.Fmt.{decimal}
@@ -9,7 +10,8 @@ use Rattle.ic_machine.specs.subjects.Sheets.{copy_name, suffix_of}
 use Rattle.ic_refs.proofs.PushLemmas.{chars-decimal}
 
 -- a number in brackets after a blank is appended
-pub suffix_pushed : (old one two new : String Global) (n : ℕ) → n < 2 ^ 64 → string_bytes one ≡ string_bytes old ++ 32 ∷ 40 ∷ [] → string_bytes two ≡ string_bytes one ++ decimal n
+pub suffix_pushed : (old one two new : String Global) (n : ℕ) → n < 2 ^ 64
+    → string_bytes one ≡ string_bytes old ++ 32 ∷ 40 ∷ [] → string_bytes two ≡ string_bytes one ++ decimal n
     → string_bytes new ≡ string_bytes two ++ 41 ∷ [] → chars (string_bytes new) ≡ chars (string_bytes old) ++ suffix_of n
 unfolding characters
 suffix_pushed old one two new n less a b c =
@@ -22,10 +24,16 @@ suffix_pushed old one two new n less a b c =
     ∙ append_assoc (chars (string_bytes old)) (32 ∷ 40 ∷ []) (decimal n ++ 41 ∷ [])
 
 -- a name that is cut, with such a number behind it, over nothing
-pub copy_put : {T E : Type 0} (r : Result T E) (source : List ℕ) (n room : ℕ) (first empty front new : List ℕ) → first ≡ [] → room ≡ 31 - (length first + length (suffix_of n)) → empty ≡ []
+pub copy_put : {T E : Type 0} (r : Result T E) (source : List ℕ) (n room : ℕ) (first empty front new : List ℕ)
+    → first ≡ [] → room ≡ 31 - (length first + length (suffix_of n)) → empty ≡ []
     → front ≡ chars empty ++ take room source → OnOk r (new ≡ front ++ suffix_of n) → OnOk r (new ≡ copy_name source n)
-copy_put r source n room first empty front new a b c d e = subst (λ t. OnOk r (new ≡ t ++ suffix_of n)) (d ∙ ap₂ (λ (old : List ℕ) k. old ++ take k source) (ap chars c ∙ chars-nil) (b ∙ ap (λ (old : List ℕ). 31 - (length old + length (suffix_of n))) a ∙ ap (λ k. 31 - k) (omega arith))) e
+copy_put r source n room first empty front new a b c d e =
+    subst (λ t. OnOk r (new ≡ t ++ suffix_of n))
+    (d ∙ ap₂ (λ (old : List ℕ) k. old ++ take k source) (ap chars c ∙ chars-nil)
+    (b ∙ ap (λ (old : List ℕ). 31 - (length old + length (suffix_of n))) a ∙ ap (λ k. 31 - k) (omega arith))) e
 
 -- a word and a number behind it, over nothing
-pub word_put : {T E : Type 0} (r : Result T E) (base digits empty front new : List ℕ) → empty ≡ [] → front ≡ chars empty ++ base → OnOk r (new ≡ front ++ digits) → OnOk r (new ≡ base ++ digits)
-word_put r base digits empty front new a b e = subst (λ t. OnOk r (new ≡ t ++ digits)) (b ∙ ap (λ (old : List ℕ). old ++ base) (ap chars a ∙ chars-nil)) e
+pub word_put : {T E : Type 0} (r : Result T E) (base digits empty front new : List ℕ) → empty ≡ []
+    → front ≡ chars empty ++ base → OnOk r (new ≡ front ++ digits) → OnOk r (new ≡ base ++ digits)
+word_put r base digits empty front new a b e =
+    subst (λ t. OnOk r (new ≡ t ++ digits)) (b ∙ ap (λ (old : List ℕ). old ++ base) (ap chars a ∙ chars-nil)) e

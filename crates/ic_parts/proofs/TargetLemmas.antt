@@ -4,7 +4,6 @@ use Rattle.std.proofs.lemmas.Bool.Decides.{Decides-int_eq}
 use Rattle.ic_laws.specs.Amount.{amount_text, is_amount}
 use Rattle.ic_laws.specs.Notations.{english}
 use Rattle.ic_laws.specs.declared.tree.Error.{Error}
-use Rattle.ic_laws.specs.declared.tree.Error.TheVariants as errors
 use Rattle.ic_tables.proofs.WellFormed.{formats_of_named}
 use Rattle.ic_tables.specs.Formats.{decimal_separator}
 use Rattle.ic_tables.specs.Tables.{IsWellFormed, language_of, locale_of}

@@ -62,7 +62,7 @@ pub fn free_name(
     Ok(text)
 }
 
-/// The same, and notes nothing.
+/// The name with the least number from 1 that no sheet has. What is noted of taken numbers is read, and nothing is noted.
 pub fn seen_free_name(
     alloc: Global,
     sheets: &Sheets,

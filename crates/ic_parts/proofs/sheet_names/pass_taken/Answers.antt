@@ -13,4 +13,5 @@ returns-then-not-taken-clause-passed c = record {
 
 pub loop-passed-preserved : goal.loop-passed-preserved
 loop-passed-preserved c =
-    taken_too (map (λ (s : HeldSheet). s.name) c.args.sheets.now) (name_with c.args.name.now) c.loop-passed.passed c.loop-passed.invariant (sym c.in_ok-taken.ensures.taken ∙ c.if-not-taken.false)
+    taken_too (map (λ (s : HeldSheet). s.name) c.args.sheets.now) (name_with c.args.name.now) c.loop-passed.passed c.loop-passed.invariant
+    (sym c.in_ok-taken.ensures.taken ∙ c.if-not-taken.false)

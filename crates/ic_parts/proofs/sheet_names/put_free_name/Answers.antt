@@ -10,10 +10,13 @@ returns-then-near-known-clause-named c =
     let names = map (λ (s : HeldSheet). s.name) c.args.sheets.now in
     c.in_ok-near.ensures.named
     ∙ ap (name_with c.args.name.now)
-    (sym (passed_free names (name_with c.args.name.now) c.len-count.result c.in_ok-near.near (c.len-count.ensures ∙ sym (length-map c.args.sheets.now (λ (s : HeldSheet). s.name)))
-    (passed_soon names (name_with c.args.name.now) c.len-count.result c.min-soon.result (c.min-known.result + 8) c.in_ok-near.near c.min-soon.ensures c.in_ok-near.ensures.passed c.if-near-known.true)))
+    (sym (passed_free names (name_with c.args.name.now) c.len-count.result c.in_ok-near.near
+    (c.len-count.ensures ∙ sym (length-map c.args.sheets.now (λ (s : HeldSheet). s.name)))
+    (passed_soon names (name_with c.args.name.now) c.len-count.result c.min-soon.result (c.min-known.result + 8) c.in_ok-near.near
+    c.min-soon.ensures c.in_ok-near.ensures.passed c.if-near-known.true)))
 
 pub returns-clause-named : goal.returns-clause-named
 returns-clause-named c =
-    passed_named (map (λ (s : HeldSheet). s.name) c.args.sheets.now) (name_with c.args.name.now) c.pass_taken-2.result c.len-count.result (chars (string_bytes c.pass_taken-2.new.text)) (c.len-count.ensures ∙ sym (length-map c.args.sheets.now (λ (s : HeldSheet). s.name)))
+    passed_named (map (λ (s : HeldSheet). s.name) c.args.sheets.now) (name_with c.args.name.now) c.pass_taken-2.result c.len-count.result
+    (chars (string_bytes c.pass_taken-2.new.text)) (c.len-count.ensures ∙ sym (length-map c.args.sheets.now (λ (s : HeldSheet). s.name)))
     c.pass_taken-2.ensures.passed c.pass_taken-2.ensures.named
