@@ -46,12 +46,12 @@ use Rattle.ic_book.specs.Inside.{IsHeld, held, held_state, with_contents}
 use Rattle.ic_changes.specs.LookUps.{LooksUpUpdated, looks_up_untouched}
 use Rattle.ic_parts.specs.Scene.{scene_renamed}
 use Rattle.ic_parts.specs.Sites.{IsUpdate, listed_sites, site_of}
-use Rattle.ic_changes.specs.Updated.{IsChecked, IsPrepared, LeavesAll, keys_named, rule_of_update}
+use Rattle.ic_changes.specs.Updated.{IsChecked, IsPrepared, LeavesAll, captures_some, keys_named, rule_of_update}
 use Rattle.ic_changes.specs.declared.definitions.remaking.PreparedUpdate.{PreparedUpdate}
 use Rattle.ic_changes.specs.declared.definitions.update.CheckedUpdate.{CheckedUpdate}
 use Rattle.ic_book.specs.declared.model.Model.TheInside.{Inside}
 use Rattle.ic_parts.proofs.ExtendLemmas.{first_later}
-use Rattle.ic_changes.proofs.SitesUpdate.{bound_body, kept_update, later, listed_is_captured, pools_kept, rule}
+use Rattle.ic_changes.proofs.SitesUpdate.{bound_body, kept_update, later, listed_is_captured, none_captured, pools_kept, rule}
 use Rattle.ic_book.proofs.UpdatedRules.{after_is, rule_is, rule_leaves}
 
 -- lists ----
@@ -111,14 +111,21 @@ module _ (inside : Inside) (h : IsHeld inside) (u : Update) (checked : CheckedUp
   update_leaves : LeavesAll (rule_of_update (function_of english) inside.contents checked.index u.new_name (keys_named u.name u.new_name checked)) inside.contents
   update_leaves = subst (λ (r : Remade). LeavesAll r inside.contents) (sym same_rule) its_leaves
 
+  abbrev key_at : List ℕ → Option ℕ → NameKey
+  key_at name scope = key_of (record { name = name; scope = scope })
+
+  -- where no formula and no body has a word that it captures, it captures nothing
+  none_captures : captures_some (rule_of_update (function_of english) inside.contents checked.index u.new_name (keys_named u.name u.new_name checked)) (keys_named u.name u.new_name checked) inside.contents ≡ false → captures (whole_of (held inside)) u ≡ false
+  none_captures none =
+      ap has_sites
+      (none_captured book u checked.index c.index body c.body ws refl its_leaves.formulas its_leaves.bodies
+      (ap₂ (λ (o m : Option ℕ). captures_some its (record { old = key_at u.name o; new = key_at u.new_name m }) inside.contents) c.old_scope c.new_scope ∙ ap (λ (r : Remade). captures_some r (keys_named u.name u.new_name checked) inside.contents) (sym same_rule) ∙ none))
+
   module _ (prepared : PreparedUpdate) (p : IsPrepared (rule_of_update (function_of english) inside.contents checked.index u.new_name (keys_named u.name u.new_name checked)) (keys_named u.name u.new_name checked) inside.contents prepared) where
     is_update : IsUpdate its (keys_of_update whole u) ws ds prepared.formulas.items prepared.bodies.bodies.items
     is_update =
         kept_update (english_function n) (scene_in whole) (later book u checked.index c.index body.has_equals formula) (old_key whole u) (new_key whole u) ws ds prepared.formulas.items prepared.bodies.bodies.items
         (subst (λ (r : Remade). AreRemade r prepared.formulas.items ws) same_rule p.formulas) (p.listed ∙ ap (λ (r : Remade). touched_bodies r 0 ds) same_rule) its_leaves.formulas its_leaves.bodies
-
-    abbrev key_at : List ℕ → Option ℕ → NameKey
-    key_at name scope = key_of (record { name = name; scope = scope })
 
     -- the sites of an update are those of what it captures
     sites_are : map site_of prepared.sites.items ≡ update_sites whole u
@@ -236,6 +243,11 @@ module _ (inside : Inside) (h : IsHeld inside) (m : ModelState) (is : held_state
 
     pub leaves_held : LeavesAll (rule_of_update (function_of english) inside.contents checked.index u.new_name change) inside.contents
     leaves_held = subst (λ (k : KeyChange). LeavesAll (by_keys k) inside.contents) (sym keyed) (update_leaves inside h u checked checked_here english en)
+
+    pub none_held : captures_some (rule_of_update (function_of english) inside.contents checked.index u.new_name change) change inside.contents ≡ false → false ≡ captures (whole_of m.book) u
+    none_held none =
+        sym (none_captures inside h u checked checked_here english en (ap (λ (k : KeyChange). captures_some (by_keys k) k inside.contents) (sym keyed) ∙ none))
+        ∙ ap (λ (k : ModelState). captures (whole_of k.book) u) is
 
     module _ (prepared : PreparedUpdate) (p : IsPrepared (rule_of_update (function_of english) inside.contents checked.index u.new_name change) change inside.contents prepared) where
       prepared_here : IsPrepared (by_keys (keys_named u.name u.new_name checked)) (keys_named u.name u.new_name checked) inside.contents prepared

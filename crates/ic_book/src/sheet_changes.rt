@@ -292,10 +292,12 @@ impl<'a> Model<'a> {
             definitions: &definitions,
         };
         let bodies = self.contents.definitions.prepare_dangling(&named)?;
+        self.names
+            .numbers
+            .lose_sheet(self.alloc, &self.contents.sheets, index);
         self.contents
             .sheets
             .rename_sheet(&mut self.names.sheets, index, new_name, &definitions)?;
-        self.names.numbers.forget();
         self.contents.definitions.apply(bodies);
         Ok(())
     }
@@ -319,6 +321,9 @@ impl<'a> Model<'a> {
             return Err(BookError::SheetIndexTooLarge);
         }
         let bodies = bodies_without(&self.contents, &self.names.names, index)?;
+        self.names
+            .numbers
+            .lose_sheet(self.alloc, &self.contents.sheets, index);
         let definitions = NamedDefinitions {
             definitions: &self.contents.definitions,
             places: &self.names.names,
@@ -326,7 +331,6 @@ impl<'a> Model<'a> {
         self.contents
             .sheets
             .delete_sheet(&mut self.names.sheets, index, &definitions)?;
-        self.names.numbers.forget();
         self.contents.definitions.apply(bodies);
         Ok(())
     }

@@ -12,6 +12,7 @@ pub mod SitesWhole
 pub mod SparedBodies
 pub mod TypedSteps
 pub mod Uncopied
+pub mod Uncaptured
 pub mod UpdatedChecks
 pub mod UpdatedDoes
 pub mod UpdatedRules

@@ -22,7 +22,6 @@ use Rattle.ic_machine.proofs.ValidLemmas.{all_at}
 use Rattle.ic_machine.specs.Capture.{captured_body, captured_formula}
 use Rattle.ic_machine.specs.Content.{formula_in}
 use Rattle.ic_machine.specs.Refusal.{DefinitionSite, Site}
-use Rattle.ic_pool.specs.Code.{code}
 use Rattle.ic_pool.specs.Remade.{LeavesUntouched, Remade, touched_from}
 use Rattle.ic_pool.specs.declared.pool.rewrites.Replacement.{Replacement}
 use Rattle.ic_parts.specs.Sites.{IsAlikeBody, IsAlikeIn, body_site, body_sites, captures, captures_at, site_of}
@@ -62,7 +61,7 @@ module _ (made : Remade) (keys : KeyChange) (scope : Option ℕ) (all : List For
   alike_from alike [] at e = tt
   alike_from alike (x ∷ xs) at e = by_touch (made.touches scope x) (alike_from alike xs (suc at) (left_from all at x xs e).1)
     where
-      by_touch : (b : Bool) → AllByRecursion (IsAlikeIn all) (touched_from made scope (suc at) xs) → AllByRecursion (IsAlikeIn all) (cond b (record { at = at; formula = becomes x; old_key = code x } ∷ touched_from made scope (suc at) xs) (touched_from made scope (suc at) xs))
+      by_touch : (b : Bool) → AllByRecursion (IsAlikeIn all) (touched_from made scope (suc at) xs) → AllByRecursion (IsAlikeIn all) (cond b (record { at = at; formula = becomes x } ∷ touched_from made scope (suc at) xs) (touched_from made scope (suc at) xs))
       by_touch true rest = (subst (λ o. IfSome o (λ f. AreAlikeFormulas f (becomes x))) (sym (left_from all at x xs e).0) (alike x), rest)
       by_touch false rest = rest
 
@@ -71,8 +70,8 @@ module _ (made : Remade) (keys : KeyChange) (scope : Option ℕ) (all : List For
   none_before (x ∷ xs) at index lt = by_touch (made.touches scope x) (none_before xs (suc at) index (omega (arith, lt)))
     where
       by_touch : (b : Bool) → list_any (hits index) (touched_from made scope (suc at) xs) ≡ false
-          → list_any (hits index) (cond b (record { at = at; formula = becomes x; old_key = code x } ∷ touched_from made scope (suc at) xs) (touched_from made scope (suc at) xs)) ≡ false
-      by_touch true rest = ap₂ (λ a b. a && captures keys all (record { at = at; formula = becomes x; old_key = code x }) || b) (apart index at lt (nat_eq index at) refl) rest
+          → list_any (hits index) (cond b (record { at = at; formula = becomes x } ∷ touched_from made scope (suc at) xs) (touched_from made scope (suc at) xs)) ≡ false
+      by_touch true rest = ap₂ (λ a b. a && captures keys all (record { at = at; formula = becomes x }) || b) (apart index at lt (nat_eq index at) refl) rest
       by_touch false rest = rest
 
   hits_from : (xs : List Formula) (at index : ℕ) → drop at all ≡ xs → at ≤ index → list_any (hits index) (touched_from made scope at xs) ≡ option_map_or its (slice_get all index) false
@@ -85,7 +84,7 @@ module _ (made : Remade) (keys : KeyChange) (scope : Option ℕ) (all : List For
       next = left_from all at x xs e
 
       new : Replacement
-      new = record { at = at; formula = becomes x; old_key = code x }
+      new = record { at = at; formula = becomes x }
 
       own : captures keys all new ≡ captured_formula keys x (becomes x)
       own = ap (λ o. option_map_or (λ f. captured_formula keys f (becomes x)) o false) next.0

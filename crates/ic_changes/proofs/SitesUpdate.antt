@@ -1,6 +1,8 @@
 -- What is listed of an update of a definition is what the machine's step says that the update captures.
-use Rattle.std.proofs.Common.{◌≡◌, ℕ, List, [], ◌∷◌, map, Bool, true, Option, Some, refl, sym, ap, ◌∙◌}
-use Rattle.std.specs.List.{AllByRecursion, slice_get}
+use Rattle.std.proofs.Common.{◌≡◌, ◌||◌, ◌++◌, ℕ, List, [], ◌∷◌, map, Bool, true, false, Option, Some, refl, sym, ap, ap₂, ◌∙◌}
+use Rattle.std.proofs.lemmas.Bool.{or_parts}
+use Rattle.std.specs.List.{AllByRecursion, list_any, slice_get, zip}
+use Rattle.std.specs.Prelude.{flat_map}
 use Rattle.ic_laws.proofs.keeping.NameChanges.{same_key_flip}
 use Rattle.ic_laws.specs.Binding.{bound}
 use Rattle.ic_laws.specs.CoreBook.{Definition}
@@ -14,14 +16,17 @@ use Rattle.ic_laws.specs.declared.tree.Formula.{Formula}
 use Rattle.ic_laws.specs.declared.tree.Formula.TheVariants as formulas
 use Rattle.ic_laws.specs.declared.tree.NameKey.{NameKey}
 use Rattle.ic_definitions.specs.Named.{key_in}
-use Rattle.ic_definitions.specs.Remade.{LeavesBody, touched_bodies}
+use Rattle.ic_definitions.specs.Remade.{LeavesBody, remade_body, touched_bodies}
+use Rattle.ic_definitions.specs.Tested.{passes_body}
 use Rattle.ic_definitions.specs.declared.bodies.NewBody.{NewBody}
 use Rattle.ic_keep.proofs.KeptAlike.{kept_formula_is_alike}
 use Rattle.ic_keep.proofs.Uncaptured.{untouched_uncaptured}
+use Rattle.ic_keep.specs.declared.change.KeyChange.{KeyChange}
 use Rattle.ic_machine.proofs.UpdatedStays.{passes_at}
 use Rattle.ic_machine.specs.Book as machine
 use Rattle.ic_machine.specs.Book.{core_of, notations_in, scene_in}
-use Rattle.ic_machine.specs.Capture.{captured_sites}
+use Rattle.ic_machine.specs.Capture.{captured_cells, captured_sites}
+use Rattle.ic_machine.specs.Refusal.{Site}
 use Rattle.ic_machine.specs.Changed.{changed_with, with_kept_pool}
 use Rattle.ic_machine.specs.subjects.Definitions.{Update, keys_of_update, new_key, new_scope_id, old_key, old_scope, scene_updated, update_body, update_sites, updated_index, with_body, with_update}
 use Rattle.ic_pool.specs.Remade.{LeavesUntouched, Remade}
@@ -29,8 +34,12 @@ use Rattle.ic_pool.specs.Rewrites.{RewritesState}
 use Rattle.ic_sheets.specs.Remade.{AreRemade, remade_pool}
 use Rattle.ic_sheets.specs.Rewriting.{sheets_of}
 use Rattle.ic_sheets.specs.Sheet.{Sheet}
+use Rattle.ic_sheets.specs.Tested.{passes_in}
 use Rattle.ic_sheets.specs.declared.sheet.Sheet.{Sheet as HeldSheet}
+use Rattle.ic_changes.specs.Updated.{captures_by}
+use Rattle.ic_changes.proofs.SiteTouched.{updated_apart}
 use Rattle.ic_changes.proofs.SitesWhole.{listed_captured}
+use Rattle.ic_changes.proofs.Uncaptured.{bodies_clear, sheets_clear}
 use Rattle.ic_parts.specs.Book.{Book, whole_of, whole_sheet}
 use Rattle.ic_parts.specs.Sites.{IsUpdate, kept_where_touched, listed_sites, site_of}
 
@@ -96,3 +105,24 @@ module _ (book : Book) (u : Update) (index : ℕ) (found : updated_index (whole_
       → IsUpdate (rule body.has_equals (bound_body body)) (keys_of_update whole u) sheets book.definitions formulas bodies → sheets_of sheets ≡ book.sheets
       → map site_of (listed_sites (keys_of_update whole u) (old_key whole u) sheets book.definitions formulas bodies) ≡ update_sites whole u
   listed_is_captured body e sheets formulas bodies update held = listed_kept body.has_equals (bound_body body) sheets formulas bodies update held ∙ sites_by_body body e
+
+  -- where no formula and no body has a word that it captures, it has no sites
+  pub none_captured : (body : Body) → update_body (notations_in whole) (core_of whole) u.body ≡ Some body → (sheets : List HeldSheet) → sheets_of sheets ≡ book.sheets
+      → AllByRecursion (λ (s : HeldSheet). AllByRecursion (LeavesUntouched (rule body.has_equals (bound_body body)) (Some s.id)) s.pool.formulas) sheets → AllByRecursion (LeavesBody (rule body.has_equals (bound_body body))) book.definitions
+      → (list_any (passes_in (captures_by (rule body.has_equals (bound_body body)) (record { old = old_key whole u; new = new_key whole u }))) sheets
+      || list_any (passes_body (captures_by (rule body.has_equals (bound_body body)) (record { old = old_key whole u; new = new_key whole u }))) book.definitions)
+      ≡ false
+      → update_sites whole u ≡ []
+  none_captured body e sheets held leaves bodies_leave none =
+      let made = rule body.has_equals (bound_body body) in
+      let keys = keys_of_update whole u in
+      let its : KeyChange = record { old = old_key whole u; new = new_key whole u } in
+      let new : Definition = record { name = u.new_name; scope = new_scope_id whole u; has_equals = body.has_equals; body = bound_body body } in
+      let parts = or_parts (list_any (passes_in (captures_by made its)) sheets) (list_any (passes_body (captures_by made its)) book.definitions) none in
+      sym (sites_by_body body e)
+      ∙ ap₂ (λ (a b : List Site). a ++ b)
+      (ap (λ ss. flat_map (captured_cells keys) (zip (map (whole_sheet book.strings) book.sheets) ss)) (pools_kept body.has_equals (bound_body body) book.sheets)
+      ∙ ap (λ ss. flat_map (captured_cells keys) (zip (map (whole_sheet book.strings) ss) (map (whole_sheet book.strings) (map (remade_pool made) ss)))) (sym held)
+      ∙ sheets_clear book.strings made its (λ scope formula. untouched_uncaptured (old_key whole u) (new_key whole u) formula) sheets leaves parts.0)
+      (updated_apart made keys (old_key whole u) new book.definitions (map (remade_body made) book.definitions) index its_key
+      ∙ bodies_clear book.strings made its (λ scope formula. untouched_uncaptured (old_key whole u) (new_key whole u) formula) (old_key whole u) book.definitions bodies_leave parts.1)

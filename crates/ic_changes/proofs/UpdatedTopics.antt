@@ -12,8 +12,14 @@ use Rattle.ic_keep.specs.Touched.{is_touched, touches_word}
 use Rattle.ic_pool.proofs.ChangeTopics.{apart}
 use Rattle.ic_pool.proofs.MentionLemmas.{neither}
 use Rattle.ic_pool.proofs.TopicLemmas.{some_among, tree_spared}
+use Rattle.ic_keep.specs.Capture.{captured_formula}
+use Rattle.ic_keep.specs.declared.change.KeyChange.{KeyChange}
+use Rattle.ic_laws.specs.Keeping.{changed_key}
 use Rattle.ic_pool.specs.Pool.{is_among}
+use Rattle.ic_pool.specs.Remade.{Remade, TouchesAbout}
+use Rattle.ic_pool.specs.Tested.{PassesAbout}
 use Rattle.ic_pool.specs.Topics.{folded_topic, mentions_some, word_topics}
+use Rattle.ic_changes.specs.Updated.{captures_by}
 
 module _ (old new : NameKey) where
   abbrev names_of : List ℕ
@@ -32,3 +38,7 @@ module _ (old new : NameKey) where
   pub touched_about : (f : Formula) → mentions_some names_of f ≡ false → is_touched old new f ≡ false
   touched_about (formulas.Tree t) e = tree_spared names_of (λ sheet. false) (touches_word old new) (λ sheet word. touches_word old new word) (λ m h. refl) word_spared (λ sheet m h. word_spared m h) t e
   touched_about (formulas.Raw text) e = refl
+
+-- so does each of which a word is captured
+pub captured_about : (rule : Remade) (change : KeyChange) (topics : List ℕ) → TouchesAbout rule topics → PassesAbout (captures_by rule change) topics
+captured_about rule change topics about scope f e = ap (λ b. b && captured_formula (changed_key change.old change.new) f (rule.becomes scope f)) (about scope f e)

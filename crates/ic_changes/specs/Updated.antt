@@ -1,14 +1,18 @@
 -- An update of a definition: what was checked of it, and what refuses it only after memory was taken.
-use Rattle.std.specs.Prelude.{◌≡◌, ◌==◌, ℕ, List, map, Bool, true, false, Option, None, Some}
-use Rattle.std.specs.List.{AllByRecursion}
+use Rattle.std.specs.Prelude.{◌≡◌, ◌==◌, ◌&&◌, ◌||◌, ℕ, List, map, Bool, true, false, Option, None, Some}
+use Rattle.std.specs.List.{AllByRecursion, list_any}
 use Rattle.ic_laws.specs.Keeping.{changed_key}
 use Rattle.ic_laws.specs.Refusal.{NameNotFound}
 use Rattle.ic_laws.specs.Scene.{key_of}
 use Rattle.ic_pool.specs.Remade.{LeavesUntouched, Remade}
+use Rattle.ic_pool.specs.Tested.{Test}
+use Rattle.ic_keep.specs.Capture.{captured_formula}
 use Rattle.ic_keep.specs.declared.change.KeyChange.{KeyChange}
 use Rattle.ic_definitions.specs.Bodies.{FitsBodies, with_bodies}
 use Rattle.ic_definitions.specs.Remade.{LeavesBody, remade_body, touched_bodies}
+use Rattle.ic_definitions.specs.Tested.{passes_body}
 use Rattle.ic_sheets.specs.Remade.{AreRemade}
+use Rattle.ic_sheets.specs.Tested.{passes_in}
 use Rattle.ic_sheets.specs.declared.sheet.Sheet.{Sheet}
 use Rattle.ic_machine.specs.Book as machine
 use Rattle.ic_machine.specs.Book.{core_of, notations_in}
@@ -49,6 +53,14 @@ keys_named name new_name checked = record { old = key_of (record { name = name; 
 abbrev pub rule_of_update : (List ℕ → Option ℕ) → Contents → ℕ → List ℕ → KeyChange → Remade
 rule_of_update english contents index new_name change =
     kept_where_touched english (scene_of_parts contents.sheets contents.definitions) (scene_renamed contents.sheets contents.definitions index new_name change.new.scope) change.old change.new
+
+-- a rule touches a formula, and what it makes of it captures a word of it
+abbrev pub captures_by : Remade → KeyChange → Test
+captures_by rule change scope formula = rule.touches scope formula && captured_formula (changed_key change.old change.new) formula (rule.becomes scope formula)
+
+-- so does it some formula of the sheets, whether a cell has it or not, or some body
+abbrev pub captures_some : Remade → KeyChange → Contents → Bool
+captures_some rule change contents = list_any (passes_in (captures_by rule change)) contents.sheets || list_any (passes_body (captures_by rule change)) contents.definitions
 
 -- a rule leaves each formula of a book that it doesn't touch
 pub record LeavesAll (rule : Remade) (contents : Contents) : Type 0 where

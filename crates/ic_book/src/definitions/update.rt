@@ -14,7 +14,9 @@ ghost use Rattle.ic_changes.specs.Updated.{IsChecked, is_late_question, is_late_
 ghost use Rattle.ic_parts.specs.Whole.{whole_of};
 
 use crate::{BookError, Model};
-use ic_changes::definitions::remaking::{keys_of_update, prepare_update, updated_definition};
+use ic_changes::definitions::remaking::{
+    keys_of_update, may_capture, prepare_update, updated_definition,
+};
 use ic_changes::definitions::update::{CheckedUpdate, FIRST_CELL, meets_other};
 use ic_definitions::NamedDefinitions;
 use ic_laws::OutOfMemory;
@@ -150,6 +152,17 @@ impl<'a> Model<'a> {
         let checked = self.checked_update(name, scope, new_name, new_scope, formula)?;
         let change = keys_of_update(self.alloc, name, new_name, &checked)?;
         let index = checked.index;
+        let may = may_capture(
+            &self.contents,
+            &self.names,
+            english,
+            new_name,
+            &change,
+            index,
+        )?;
+        if !may {
+            return Ok(false);
+        }
         let prepared = prepare_update(
             self.alloc,
             &self.contents,

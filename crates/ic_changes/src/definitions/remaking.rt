@@ -7,6 +7,7 @@ ghost use Rattle.ic_laws.specs.Name.{fold};
 ghost use Rattle.ic_laws.specs.Scene.{key_of, same_key};
 ghost use Rattle.ic_laws.specs.declared.tree.Formula.TheVariants as formulas;
 ghost use Rattle.ic_tree.specs.LanguageWords.{function_of};
+ghost use Rattle.ic_pool.specs.Topics.{folded_topic};
 ghost use Rattle.ic_definitions.specs.Bodies.{FitsBodies, with_bodies};
 ghost use Rattle.ic_definitions.specs.Named.{FindsNames, key_in};
 ghost use Rattle.ic_sheets.specs.Rewriting.{FitOwn, with_own_rewrites};
@@ -14,18 +15,18 @@ ghost use Rattle.ic_machine.specs.Capture.{has_sites};
 ghost use Rattle.ic_parts.specs.Names.{IsIndexed};
 ghost use Rattle.ic_parts.specs.Scene.{scene_of_parts, scene_renamed};
 ghost use Rattle.ic_parts.specs.Sites.{kept_where_touched, site_of};
-ghost use Rattle.ic_changes.specs.Updated.{IsPrepared, LeavesAll, keys_named, rule_of_update};
+ghost use Rattle.ic_changes.specs.Updated.{IsPrepared, LeavesAll, captures_by, captures_some, keys_named, rule_of_update};
 
 use crate::definitions::update::CheckedUpdate;
 use caseless::default_case_fold_str;
 use ic_definitions::{BodyRewrites, Definition, NamedDefinitions, UpdatedDefinitions};
-use ic_keep::{KeyChange, is_touched, keep_formula};
+use ic_keep::{KeyChange, is_touched, keep_formula, would_capture};
 use ic_laws::{Formula, Items, NameKey, OutOfMemory, Text};
 use ic_parts::contents::Contents;
 use ic_parts::scene::{BookScene, SceneOver};
 use ic_parts::sites::sites_of_update;
 use ic_parts::{MentionSite, NameIndex};
-use ic_pool::{Remaking, Rewrites, folded_topic};
+use ic_pool::{FormulaTest, Remaking, Rewrites, folded_topic};
 use ic_tables::Language;
 use ic_tree::bind;
 use std::alloc::Global;
@@ -56,12 +57,14 @@ impl<'u> Updating<'u> {
     ) -> Updating<'u>
         requires indexed { IsIndexed names.now contents.now.sheets contents.now.definitions }
         requires named { change.now.new.name ≡ fold (chars new_name.now) }
-        ensures { ⟦<Updating<'u> as Remaking>⟧.made result ≡ kept_where_touched
+        ensures made { ⟦<Updating<'u> as Remaking>⟧.made result ≡ kept_where_touched
             (function_of english.now)
             (scene_of_parts contents.now.sheets contents.now.definitions)
             (scene_renamed contents.now.sheets definitions.now.definitions.definitions.now
             definitions.now.index (chars definitions.now.name.now) definitions.now.key.now.scope)
             change.now.old change.now.new }
+        ensures captures { ⟦<Updating<'u> as FormulaTest>⟧.passing result ≡ captures_by
+            (⟦<Updating<'u> as Remaking>⟧.made result) change.now }
     {
         Updating {
             before: BookScene::new(contents, names),
@@ -82,9 +85,7 @@ impl<'u> Remaking for Updating<'u> {
     ghost made = { λ u. kept_where_touched (function_of u.english.now) (scene_of_parts u.before.sheets.now u.before.definitions.definitions.now) (scene_renamed u.after.sheets.now u.after.definitions.now.definitions.definitions.now u.after.definitions.now.index (chars u.after.definitions.now.name.now) u.after.definitions.now.key.now.scope) u.change.now.old u.change.now.new };
 
     fn topics(&self) -> (u64, u64) {
-        let old = folded_topic(self.change.old.name.as_str());
-        let new = folded_topic(self.change.new.name.as_str());
-        (old, new)
+        topics_of(self.change)
     }
 
     fn touches(&self, _scope: Option<u32>, formula: &Formula) -> bool {
@@ -107,6 +108,49 @@ impl<'u> Remaking for Updating<'u> {
             formula,
         )
     }
+}
+
+impl<'u> FormulaTest for Updating<'u> {
+    ghost use Rattle.std.specs.Prelude.{chars};
+    ghost use Rattle.ic_tree.specs.LanguageWords.{function_of};
+    ghost use Rattle.ic_parts.specs.Scene.{scene_of_parts, scene_renamed};
+    ghost use Rattle.ic_parts.specs.Sites.{kept_where_touched};
+    ghost use Rattle.ic_changes.specs.Updated.{captures_by};
+
+    ghost passing = { λ u. captures_by (kept_where_touched (function_of u.english.now) (scene_of_parts u.before.sheets.now u.before.definitions.definitions.now) (scene_renamed u.after.sheets.now u.after.definitions.now.definitions.definitions.now u.after.definitions.now.index (chars u.after.definitions.now.name.now) u.after.definitions.now.key.now.scope) u.change.now.old u.change.now.new) u.change.now };
+
+    fn topics(&self) -> (u64, u64) {
+        topics_of(self.change)
+    }
+
+    fn passes(
+        &self,
+        alloc: Global,
+        scope: Option<u32>,
+        formula: &Formula,
+    ) -> Result<bool, OutOfMemory> {
+        if !is_touched(self.change, self.new_name, formula) {
+            return Ok(false);
+        }
+        would_capture(
+            alloc,
+            &self.before,
+            &self.after,
+            self.change,
+            self.english,
+            scope,
+            formula,
+        )
+    }
+}
+
+/// The topics of the name that a definition had, and of the one that it gets.
+fn topics_of(change: &KeyChange) -> (u64, u64)
+    ensures { result ≡ (folded_topic change.now.old.name, folded_topic change.now.new.name) }
+{
+    let old = folded_topic(change.old.name.as_str());
+    let new = folded_topic(change.new.name.as_str());
+    (old, new)
 }
 
 /// What an update makes of the formulas of each sheet and of the bodies of definitions, and where it would capture.
@@ -220,6 +264,31 @@ pub fn prepare_update(
         bodies,
         sites,
     })
+}
+
+/// Whether an update may capture: whether it captures a word of some formula, whether a cell has it or not, or of some body,
+/// that of its definition too. Where it doesn't, it captures nothing. Nothing is copied but parts that call a word or have
+/// variables.
+pub fn may_capture(
+    contents: &Contents,
+    names: &NameIndex,
+    english: &Language,
+    new_name: &str,
+    change: &KeyChange,
+    index: usize,
+) -> Result<bool, OutOfMemory>
+    requires indexed { IsIndexed names.now contents.now.sheets contents.now.definitions }
+    requires named { change.now.new.name ≡ fold (chars new_name.now) }
+    ensures { IfOk result (λ may. may ≡ captures_some (rule_of_update (function_of english.now)
+        contents.now index (chars new_name.now) change.now) change.now contents.now) }
+{
+    let named = NamedDefinitions {
+        definitions: &contents.definitions,
+        places: &names.names,
+    };
+    let definitions = UpdatedDefinitions::new(named, index, new_name, &change.new);
+    let updating = Updating::new(contents, names, &definitions, new_name, change, english);
+    Ok(contents.sheets.has_passing(&updating)? || contents.definitions.has_passing(&updating)?)
 }
 
 /// The definition that an update gives, whose body is bound where it has its new name.

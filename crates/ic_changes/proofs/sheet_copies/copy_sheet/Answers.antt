@@ -29,7 +29,8 @@ pub add_copies-requires-clause-indexed : goal.add_copies-requires-clause-indexed
 add_copies-requires-clause-indexed c = record {
   sheets = c.insert_unapplied.ensures.finds;
   names = c.requires.indexed.names;
-  numbers = knows_put c.args.names.now.numbers c.args.contents.now.sheets c.insert_unapplied.new.self c.requires.indexed.numbers (c.args.index + 1) (chars c.args.name.now)
+  numbers = knows_put c.args.names.now.numbers c.args.contents.now.sheets c.insert_unapplied.new.self c.requires.indexed.numbers
+      (c.args.index + 1) (chars c.args.name.now)
       (ap names c.in_ok-prepared.ensures.ok ∙ inserted_seen (λ (s : HeldSheet). s.name) c.args.contents.now.sheets (c.args.index + 1) _);
 }
 

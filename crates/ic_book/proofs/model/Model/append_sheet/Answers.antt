@@ -55,7 +55,12 @@ invariant_of-self-2 c =
       book = held_after c.self.inside c.self.invariant.book c.add_sheet.new.self c.apply.new.self (book_changed_by (with_added_sheet name) (held c.self.inside))
           (added c.self.inside c.self.invariant.book c.add_sheet.new.self c.apply.new.self name c.in-Some.id none (ap (λ (m : ModelState). fresh_id (core_of m.book)) c.self.view_is ∙ sym c.in-Some.ensures.fresh) c.in_ok-add_sheet.ensures.ok (c.apply.ensures.bodies ∙ c.in_ok-bodies.ensures.made))
           (added_valid (held c.self.inside) c.self.invariant.book name none);
-      names = record { sheets = c.add_sheet.ensures.finds; names = c.apply.ensures.finds c.self.inside.names.names c.self.invariant.names.names; numbers = knows_added c.self.inside.names.numbers c.self.inside.contents.sheets c.add_sheet.new.self c.self.invariant.names.numbers (sheet_named (definitions_scene c.self.inside.contents.definitions) c.in-Some.id name) _ c.in_ok-add_sheet.ensures.ok };
+      names = record {
+        sheets = c.add_sheet.ensures.finds;
+        names = c.apply.ensures.finds c.self.inside.names.names c.self.invariant.names.names;
+        numbers = knows_added c.self.inside.names.numbers c.self.inside.contents.sheets c.add_sheet.new.self c.self.invariant.names.numbers
+            (sheet_named (definitions_scene c.self.inside.contents.definitions) c.in-Some.id name) _ c.in_ok-add_sheet.ensures.ok;
+      };
     }
 
 pub returns-clause-ok : goal.returns-clause-ok

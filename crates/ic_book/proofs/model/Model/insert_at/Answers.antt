@@ -40,7 +40,12 @@ invariant_of-self-2 c =
     record {
       book = inserted_held c.self.inside c.self.invariant.book c.args.index c.args.id (chars c.args.name.now) none c.insert_sheet.new.self c.apply.new.self (says_id c.args.id (search (rules, arith)))
           (inserted c.self.inside c.self.invariant.book c.args.index c.args.id (chars c.args.name.now) none c.insert_sheet.new.self c.apply.new.self c.in_ok-insert_sheet.ensures.ok (c.apply.ensures.bodies ∙ c.in_ok-bodies.ensures.made));
-      names = record { sheets = c.insert_sheet.ensures.finds; names = c.apply.ensures.finds c.self.inside.names.names c.self.invariant.names.names; numbers = knows_inserted c.self.inside.names.numbers c.self.inside.contents.sheets c.insert_sheet.new.self c.self.invariant.names.numbers (sheet_named (definitions_scene c.self.inside.contents.definitions) c.args.id (chars c.args.name.now)) _ _ c.in_ok-insert_sheet.ensures.ok };
+      names = record {
+        sheets = c.insert_sheet.ensures.finds;
+        names = c.apply.ensures.finds c.self.inside.names.names c.self.invariant.names.names;
+        numbers = knows_inserted c.self.inside.names.numbers c.self.inside.contents.sheets c.insert_sheet.new.self c.self.invariant.names.numbers
+            (sheet_named (definitions_scene c.self.inside.contents.definitions) c.args.id (chars c.args.name.now)) _ _ c.in_ok-insert_sheet.ensures.ok;
+      };
     }
 
 pub returns-clause-ok : goal.returns-clause-ok

@@ -22,7 +22,12 @@ invariant_of-self c =
       book = held_after c.self.inside c.self.invariant.book c.move_to.new.self c.self.inside.contents.definitions (with_moved_sheet c.args.sheet_index c.args.new_index (held c.self.inside))
           (put c.self.inside c.self.invariant.book c.move_to.new.self c.args.sheet_index c.args.new_index c.move_to.ensures.moved)
           (moved_valid (held c.self.inside) c.self.invariant.book c.args.sheet_index c.args.new_index (move_accepts (core_of (held c.self.inside)) c.args.sheet_index c.args.new_index (there_is c.self.inside.contents.sheets c.args.sheet_index from) (there_is c.self.inside.contents.sheets c.args.new_index to)));
-      names = record { sheets = c.move_to.ensures.finds c.self.inside.names.sheets c.self.invariant.names.sheets; names = c.self.invariant.names.names; numbers = knows_moved c.self.inside.names.numbers c.self.inside.contents.sheets c.move_to.new.self c.self.invariant.names.numbers c.args.sheet_index c.args.new_index from c.move_to.ensures.moved };
+      names = record {
+        sheets = c.move_to.ensures.finds c.self.inside.names.sheets c.self.invariant.names.sheets;
+        names = c.self.invariant.names.names;
+        numbers = knows_moved c.self.inside.names.numbers c.self.inside.contents.sheets c.move_to.new.self c.self.invariant.names.numbers
+            c.args.sheet_index c.args.new_index from c.move_to.ensures.moved;
+      };
     }
 
 pub returns-clause-ok : goal.returns-clause-ok

@@ -9,17 +9,20 @@ use Rattle.ic_laws.specs.Name.{agrees}
 use Rattle.ic_laws.specs.Refusal.{InvalidSheet, SheetExists}
 use Rattle.ic_sheets.proofs.IndexLemmas.{read_boxed}
 use Rattle.ic_sheets.proofs.RewritingLemmas.{sheet_there}
+use Rattle.ic_sheets.proofs.SearchLemmas.{names}
 use Rattle.ic_sheets.specs.Rewriting.{look_ups, looks_up_after}
 use Rattle.ic_sheets.specs.Sheet.{Sheet}
 use Rattle.ic_sheets.specs.declared.sheet.Sheet.{Sheet as HeldSheet}
 use Rattle.ic_definitions.specs.Named.{definitions_scene}
 use Rattle.ic_parts.specs.Book.{ModelState, core_of, notations_in}
 use Rattle.ic_parts.specs.Change.{book_changed_by, with_renamed_sheet}
-use Rattle.ic_book.specs.Inside.{held, held_state, with_contents}
+use Rattle.ic_book.specs.Inside.{IsHeld, held, held_state, with_contents, with_sheets}
 use Rattle.ic_changes.specs.LookUps.{LooksUpNamed}
 use Rattle.ic_parts.specs.Refused.{Refuses}
+use Rattle.ic_parts.specs.SheetNames.{KnowsNumbers}
 use Rattle.ic_parts.proofs.BookLemmas.{core_of-changed, renamed_change}
 use Rattle.ic_parts.proofs.BookValid.{renamed_valid}
+use Rattle.ic_parts.proofs.NameIndexLemmas.{names_renamed}
 use Rattle.ic_parts.proofs.HeldLemmas.{no_memory, lacks_is, past_of, read_is, rename_accepts, rename_lacks, rename_taken, seen_names, there_is, within_of}
 use Rattle.ic_book.proofs.HeldLemmas.{binds_renamed, held_after, keeps_renamed, renamed, same_naming}
 use Rattle.ic_changes.proofs.SparedBodies.{naming_bodies}
@@ -49,6 +52,17 @@ returns-in_err-rename_sheet-clause-refused c =
     let name = chars c.args.new_name.now in
     subst (λ (m : ModelState). Refuses c.from_residual-in_err-rename_sheet.result (rename_refusal (core_of m.book) c.args.index name)) c.self.view_is (subst (Refuses c.from_residual-in_err-rename_sheet.result) (sym (rename_accepts (core_of (held c.self.inside)) c.args.index name (sym c.is_valid_sheet_name.ensures ∙ c.if-not-is_valid_sheet_name.false) (ap (λ xs. list_any (agrees name) (remove xs c.args.index)) (sym (seen_names c.self.inside.contents.sheets)) ∙ sym c.is_taken_by_other.ensures ∙ c.if-is_taken_by_other.false) (there_is c.self.inside.contents.sheets c.args.index (within_of c.self.inside.contents.sheets c.len.result c.args.index c.len.ensures c.if-index-len.false)))) (no_memory c.from_residual-in_err-rename_sheet.result c.from_residual-in_err-rename_sheet.ensures))
 
+pub invariant_of-self : goal.invariant_of-self
+invariant_of-self c = record {
+  book = subst (λ (ws : List HeldSheet). IsHeld (with_sheets ws c.self.inside)) (sym c.in_err-rename_sheet.ensures.err) c.self.invariant.book;
+  names = record {
+    sheets = c.rename_sheet.ensures.finds;
+    names = c.self.invariant.names.names;
+    numbers = subst (λ (ws : List HeldSheet). KnowsNumbers c.lose_sheet.new.self (names ws)) (sym c.in_err-rename_sheet.ensures.err)
+        (c.lose_sheet.ensures.kept c.self.invariant.names.numbers);
+  };
+}
+
 pub invariant_of-self-2 : goal.invariant_of-self-2
 invariant_of-self-2 c =
     let name = chars c.args.new_name.now in
@@ -58,7 +72,14 @@ invariant_of-self-2 c =
       book = held_after c.self.inside c.self.invariant.book c.rename_sheet.new.self c.apply.new.self (book_changed_by (with_renamed_sheet c.args.index name) (held c.self.inside))
           (renamed c.self.inside c.self.invariant.book c.rename_sheet.new.self c.apply.new.self c.args.index name at.0 none at.1 (c.in_ok-rename_sheet.ensures.ok at.0 at.1) (c.apply.ensures.bodies ∙ c.in_ok-bodies.ensures.made ∙ ap (λ (s : HeldSheet). map (with_body_tree (changed_tree (sheet_named (definitions_scene c.self.inside.contents.definitions) s.id name))) c.self.inside.contents.definitions) (read_is c.as_slice.result.now c.self.inside.contents.sheets c.args.index c.as_ref.result.now at.0 c.as_slice.ensures.sheets (within_of c.self.inside.contents.sheets c.len.result c.args.index c.len.ensures c.if-index-len.false) (read_boxed c.as_slice.result.now c.args.index c.as_ref.ensures c.index-as_slice-index.is) at.1)))
           (renamed_valid (held c.self.inside) c.self.invariant.book c.args.index name none);
-      names = record { sheets = c.rename_sheet.ensures.finds; names = c.apply.ensures.finds c.self.inside.names.names c.self.invariant.names.names; numbers = c.forget.ensures _ };
+      names = record {
+        sheets = c.rename_sheet.ensures.finds;
+        names = c.apply.ensures.finds c.self.inside.names.names c.self.invariant.names.names;
+        numbers = subst (KnowsNumbers c.lose_sheet.new.self)
+            (sym (names_renamed c.self.inside.contents.sheets c.rename_sheet.new.self
+            (sheet_named (definitions_scene c.self.inside.contents.definitions) at.0.id name) c.args.index name (c.in_ok-rename_sheet.ensures.ok at.0 at.1)))
+            (c.lose_sheet.ensures.renamed c.self.invariant.names.numbers name);
+      };
     }
 
 pub returns-clause-ok : goal.returns-clause-ok
