@@ -13,6 +13,7 @@ pub mod ListedLemmas
 pub mod MentionLemmas
 pub mod MentionedLemmas
 pub mod MentioningLemmas
+pub mod MergeLemmas
 pub mod PlaceLemmas
 pub mod PlacedLemmas
 pub mod Rebuilt

@@ -1,9 +1,7 @@
 -- An index by mention keeps up with the formulas.
 use Rattle.std.proofs.Common.{◌≡◌, ℕ, zero, suc, ◌<◌, List, [], ◌∷◌, ◌++◌, Bool, true, false, ◌&&◌, ◌||◌, OnOk, Some, refl, sym, ap, ◌∙◌, subst, length, set, arith, ◌⊎◌, inl, inr}
 use Rattle.std.specs.Prelude.{nat_eq, ◌==◌}
-use Rattle.std.specs.BTreeSet.{BTreeSet, contains}
 use Rattle.std.specs.List.{AllByRecursion, slice_get}
-use Rattle.std.specs.Ordering.{nat_cmp}
 use Rattle.std.specs.declared.result.Result.{Result}
 use Rattle.std.specs.declared.result.Result.TheVariants.{Err, Ok}
 use Rattle.std.specs.Result.{is_ok}
@@ -116,16 +114,19 @@ none_mentioned index topics xs knows none at x e = by_test (mentions_some topics
     by_test false is = is
     by_test true is = absurd (clash (has_place_of index topics at) (some_place index at x topics (knows at x e) is) (none at))
 
-pub places_found : (index : Noted) (topics : List ℕ) (xs : List Formula) (places : BTreeSet ℕ) → KnowsAll index xs → ((at : ℕ) → has_place_of index topics at ≡ true → contains nat_cmp places at ≡ true) → HasPassing (mentions_some topics) places xs
+pub places_found : (index : Noted) (topics : List ℕ) (xs : List Formula) (places : List ℕ) → KnowsAll index xs
+    → ((at : ℕ) → has_place_of index topics at ≡ true → is_among at places ≡ true) → HasPassing (mentions_some topics) places xs
 places_found index topics xs places knows found at x e passes = found at (some_place index at x topics (knows at x e) passes)
 
-pub places_all : (topics : List ℕ) (xs : List Formula) (places : BTreeSet ℕ) (end : ℕ) → end ≡ length xs → ((at : ℕ) → at < end → contains nat_cmp places at ≡ true) → HasPassing (mentions_some topics) places xs
+pub places_all : (topics : List ℕ) (xs : List Formula) (places : List ℕ) (end : ℕ) → end ≡ length xs
+    → ((at : ℕ) → at < end → is_among at places ≡ true) → HasPassing (mentions_some topics) places xs
 places_all topics xs places end counted all at x e passes = all at (subst (λ n. at < n) (sym counted) (slice_get_within xs at x e))
 
 -- a test that fails where a formula doesn't mention the topics
-pub narrower : (test other : Formula → Bool) (places : BTreeSet ℕ) (xs : List Formula) → ((x : Formula) → test x ≡ false → other x ≡ false) → HasPassing test places xs → HasPassing other places xs
+pub narrower : (test other : Formula → Bool) (places : List ℕ) (xs : List Formula) → ((x : Formula) → test x ≡ false → other x ≡ false)
+    → HasPassing test places xs → HasPassing other places xs
 narrower test other places xs fails has at x e passes = by_test (test x) refl
   where
-    by_test : (b : Bool) → test x ≡ b → contains nat_cmp places at ≡ true
+    by_test : (b : Bool) → test x ≡ b → is_among at places ≡ true
     by_test true is = has at x e is
     by_test false is = absurd (clash (other x) passes (fails x is))

@@ -16,7 +16,6 @@ use Rattle.ic_pool.specs.Mentioning.{AreThosePassing, mentions_name, mentions_sh
 use Rattle.ic_pool.specs.Pool.{is_among}
 use Rattle.ic_pool.specs.Topics.{folded_topic, mentions_some, sheet_topic}
 use Rattle.ic_pool.proofs.ChangeTopics.{deleting_spares, going_spares}
-use Rattle.ic_pool.proofs.RewriteLemmas.{same_test}
 
 absorbed : (q r : Bool) → (q || (r && q)) ≡ q
 absorbed true r = refl
@@ -42,21 +41,21 @@ module _ (test : Formula → Bool) (formulas : List Formula) where
   pub record PassingSoFar (left : List ℕ) (passing : BTreeSet ℕ) : Type 0 where
     pub all : (k : ℕ) → (contains nat_cmp passing k || (is_among k left && passes_at test formulas k)) ≡ passes_at test formulas k
 
-  there : (places : BTreeSet ℕ) (k : ℕ) (o : Option Formula) → slice_get formulas k ≡ o → HasPassing test places formulas → option_map_or test o false ≡ true → is_among k places.keys ≡ true
+  there : (places : List ℕ) (k : ℕ) (o : Option Formula) → slice_get formulas k ≡ o → HasPassing test places formulas
+      → option_map_or test o false ≡ true → is_among k places ≡ true
   there places k None is has e = cc
-  there places k (Some x) is has e = same_test (λ y. y) test formulas k places.keys ∙ has k x is e
+  there places k (Some x) is has e = has k x is e
 
-  pub none_put : (places : BTreeSet ℕ) (left : List ℕ) (passing : BTreeSet ℕ) → left ≡ places.keys → passing.keys ≡ [] → HasPassing test places formulas → PassingSoFar left passing
-  none_put places left passing from none has = record {
+  pub none_put : (places : List ℕ) (passing : BTreeSet ℕ) → passing.keys ≡ [] → HasPassing test places formulas → PassingSoFar places passing
+  none_put places passing none has = record {
     all = λ k.
-        ap (λ b. b || (is_among k left && passes_at test formulas k)) (ap (λ ks. list_any (is_at (nat_cmp k)) ks) none)
-        ∙ ap (λ ks. is_among k ks && passes_at test formulas k) from
+        ap (λ b. b || (is_among k places && passes_at test formulas k)) (ap (λ ks. list_any (is_at (nat_cmp k)) ks) none)
         ∙ by_test k (passes_at test formulas k) refl;
   }
     where
-      by_test : (k : ℕ) (b : Bool) → passes_at test formulas k ≡ b → (is_among k places.keys && b) ≡ b
+      by_test : (k : ℕ) (b : Bool) → passes_at test formulas k ≡ b → (is_among k places && b) ≡ b
       by_test k true e = ap (λ r. r && true) (there places k (slice_get formulas k) refl has e)
-      by_test k false e = no_more (is_among k places.keys)
+      by_test k false e = no_more (is_among k places)
 
   pub one_put : (left : List ℕ) (at : ℕ) (rest : List ℕ) (before after : BTreeSet ℕ) → left ≡ at ∷ rest → PassingSoFar left before
       → ((k : ℕ) → contains nat_cmp after k ≡ (contains nat_cmp before k || (nat_eq k at && passes_at test formulas at))) → PassingSoFar rest after

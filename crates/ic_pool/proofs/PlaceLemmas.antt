@@ -1,9 +1,7 @@
 -- Places in an index by mention.
-use Rattle.std.proofs.Common.{◌≡◌, ℕ, zero, suc, ◌<◌, ◌+◌, List, [], ◌∷◌, Bool, true, false, cond, ◌||◌, refl, sym, ap, ap₂, ◌∙◌, get_or, length, take, arith, ◌⊎◌, inl, inr}
+use Rattle.std.proofs.Common.{◌≡◌, ℕ, zero, suc, ◌<◌, ◌+◌, List, [], ◌∷◌, Bool, true, false, ◌||◌, refl, sym, ap, ap₂, ◌∙◌, get_or, length, take, arith, ◌⊎◌, inl, inr}
 use Rattle.std.specs.Prelude.{◌==◌}
-use Rattle.std.specs.BTreeSet.{BTreeSet, Updates, contains}
 use Rattle.std.specs.List.{insert, list_any}
-use Rattle.std.specs.Ordering.{is_eq, nat_cmp}
 use Rattle.std.proofs.lemmas.Bool.{eqb-true}
 use Rattle.std.proofs.lemmas.List.{take_more}
 use Rattle.std.proofs.lemmas.List.Folds.{list_any-append}
@@ -30,15 +28,7 @@ pub no_items : {X : Type 0} (xs : List X) → (length xs == 0) ≡ true → xs �
 no_items [] e = refl
 no_items (x ∷ xs) e = let none : suc (length xs) ≡ 0 = eqb-true (suc (length xs)) 0 e in absurd (omega (arith, none))
 
-either_way : (b : Bool) → cond b true true ≡ true
-either_way true = refl
-either_way false = refl
-
--- a place that was in a set still is when one is put in
-pub still_in : (before after : BTreeSet ℕ) (k q : ℕ) → Updates nat_cmp before after k true → contains nat_cmp before q ≡ true → contains nat_cmp after q ≡ true
-still_in before after k q u e = u.0 q ∙ ap (cond (is_eq (nat_cmp k q)) true) e ∙ either_way (is_eq (nat_cmp k q))
-
-or_true : (b : Bool) → (b || true) ≡ true
+pub or_true : (b : Bool) → (b || true) ≡ true
 or_true true = refl
 or_true false = refl
 

@@ -1,19 +1,13 @@
 -- Rewriting the formulas of a pool, one after another.
 use Rattle.std.proofs.Common.{◌≡◌, ◌<◌, ◌≤◌, ◌+◌, ◌-◌, ℕ, zero, suc, List, [], ◌∷◌, ◌++◌, Bool, true, false, cond, ◌||◌, Option, Some, None, option_map, refl, sym, ap, ap₂, subst, ◌∙◌, map, length, take, drop, get_or, set, arith, append_assoc, append-nil, ◌⊎◌, inl, inr}
 use Rattle.std.specs.Prelude.{MatchOption, nat_eq}
-use Rattle.std.specs.BTreeMap.{is_at}
-use Rattle.std.specs.BTreeSet.{BTreeSet}
-use Rattle.std.specs.Cmp.{ranked, unsigned_tied}
-use Rattle.std.specs.List.{AllByRecursion, list_any, slice_get}
-use Rattle.std.specs.List.Sorted.{IsStrictlySortedBy}
-use Rattle.std.specs.Ordering.{nat_cmp}
-use Rattle.std.specs.declared.cmp.Ordering.TheVariants.{Less}
+use Rattle.std.specs.List.{AllByRecursion, slice_get}
 use Rattle.std.proofs.lemmas.Bool.{cases_lt, eqb-true}
 use Rattle.std.proofs.lemmas.List.{drop_all, drop_more, length-map, length-take, map_more, set_at, take_all, take_more}
 use Rattle.std.proofs.lemmas.Option.{get_or_from_slice_get, slice_get_within}
 use Rattle.ic_laws.specs.declared.tree.Formula.{Formula}
 use Rattle.ic_pool.specs.Code.{code}
-use Rattle.ic_pool.specs.MentionPlaces.{HasPassing}
+use Rattle.ic_pool.specs.MentionPlaces.{AscendFrom, HasPassing}
 use Rattle.ic_pool.specs.Pool.{is_among, places_where}
 use Rattle.ic_pool.specs.Rewrites.{FitsPool, IsNoted, IsNotedAt, KnowsOldKeys, RewritesState, changed_by, is_key_among, keys_of, old_places, places_of, replaced_from, rewritten_by}
 use Rattle.ic_pool.specs.declared.pool.rewrites.Replacement.{Replacement}
@@ -138,11 +132,6 @@ module _ (f : Formula → Formula) (test : Formula → Bool) (formulas : List Fo
 
   -- ---- where those that pass stand at some places
 
-  -- places in ascending order, from one on
-  abbrev AscendFrom : ℕ → List ℕ → Type 0
-  AscendFrom i [] = Unit {0}
-  AscendFrom i (p ∷ ps) = (i ≤ p) × AscendFrom (suc p) ps
-
   -- those of the formulas that pass, from one place on, are among the places that are left, which ascend
   pub record Awaits (i : ℕ) (ps : List ℕ) : Type 0 where
     pub ascend : AscendFrom i ps
@@ -154,23 +143,9 @@ module _ (f : Formula → Formula) (test : Formula → Bool) (formulas : List Fo
     pub done : RewrittenTo i s
     pub awaits : Awaits i ps
 
-  pub same_test : (k : ℕ) (ks : List ℕ) → is_among k ks ≡ list_any (is_at (nat_cmp k)) ks
-  same_test k [] = refl
-  same_test k (q ∷ ks) = ap₂ (λ a b. a || b) (sym (unsigned_tied k q)) (same_test k ks)
-
   ascend_later : (i j : ℕ) (ps : List ℕ) → i ≤ j → AscendFrom j ps → AscendFrom i ps
   ascend_later i j [] le h = tt
   ascend_later i j (p ∷ ps) le h = (let first = h.0 in omega (arith, le, first), h.1)
-
-  ascend_after : (k : ℕ) (ks : List ℕ) → AllByRecursion (λ q. nat_cmp k q ≡ Less) ks → IsStrictlySortedBy nat_cmp ks → AscendFrom (suc k) ks
-  unfolding IsStrictlySortedBy
-  ascend_after k [] less sorted = tt
-  ascend_after k (q ∷ ks) less sorted = (let lt = ranked k q Less (sym less.0) in omega (arith, lt), ascend_after q ks sorted.0 sorted.1)
-
-  ascend_sorted : (ks : List ℕ) → IsStrictlySortedBy nat_cmp ks → AscendFrom 0 ks
-  unfolding IsStrictlySortedBy
-  ascend_sorted [] sorted = tt
-  ascend_sorted (k ∷ ks) sorted = (omega arith, ascend_after k ks sorted.0 sorted.1)
 
   -- before the first
   not_begun : (s : RewritesState) → s.changes ≡ [] → s.places ≡ [] → s.old_keys ≡ [] → RewrittenTo 0 s
@@ -296,9 +271,10 @@ module _ (f : Formula → Formula) (test : Formula → Bool) (formulas : List Fo
     })
 
   -- where all await
-  pub none_looked : (places : BTreeSet ℕ) (left : List ℕ) (s : RewritesState) → left ≡ places.keys → s.changes ≡ [] → s.places ≡ [] → s.old_keys ≡ [] → IsStrictlySortedBy nat_cmp places.keys → HasPassing test places formulas → RewrittenSoFar left s
-  none_looked places left s all no_changes no_places no_keys sorted has = subst (λ ks. RewrittenSoFar ks s) (sym all) (record {
+  pub none_looked : (places : List ℕ) (s : RewritesState) → s.changes ≡ [] → s.places ≡ [] → s.old_keys ≡ [] → AscendFrom 0 places
+      → HasPassing test places formulas → RewrittenSoFar places s
+  none_looked places s no_changes no_places no_keys ascend has = record {
     i = 0;
     done = not_begun s no_changes no_places no_keys;
-    awaits = record { ascend = ascend_sorted places.keys sorted; passing = λ k x le e passes. same_test k places.keys ∙ has k x e passes };
-  })
+    awaits = record { ascend = ascend; passing = λ k x le e passes. has k x e passes };
+  }

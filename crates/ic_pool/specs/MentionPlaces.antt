@@ -1,7 +1,6 @@
 -- Where formulas mention what: for each topic the places of those that mention it. An index may have more places than those.
-use Rattle.std.specs.Prelude.{◌≡◌, ℕ, List, [], Bool, true, false, Some}
+use Rattle.std.specs.Prelude.{◌≡◌, ◌<◌, ◌≤◌, ◌+◌, ◌||◌, ℕ, suc, List, [], ◌∷◌, Bool, true, false, Option, Some, length, nat_eq}
 use Rattle.std.specs.BTreeMap.{is_at}
-use Rattle.std.specs.BTreeSet.{BTreeSet, contains}
 use Rattle.std.specs.List.{list_any, slice_get}
 use Rattle.std.specs.Map.{lookup}
 use Rattle.std.specs.Option.{unwrap_or}
@@ -34,13 +33,32 @@ KeepsAll before after = (topic at : ℕ) → has_place before topic at ≡ true 
 abbrev pub HasAt : Noted → ℕ → List ℕ → Type 0
 HasAt index at topics = (topic : ℕ) → is_among topic topics ≡ true → has_place index topic at ≡ true
 
+-- it has the place, where there is one, of each of these topics
+abbrev pub KnowsLast : Noted → Option ℕ → List ℕ → Type 0
+KnowsLast index place topics = (at : ℕ) → place ≡ Some at → HasAt index at topics
+
 -- it has the place of each formula, of each topic that it mentions
 abbrev pub KnowsAll : Noted → List Formula → Type 0
 KnowsAll index formulas = (at : ℕ) (formula : Formula) → slice_get formulas at ≡ Some formula → HasAt index at (topics_in formula)
 
+-- places from one on, each once, in ascending order
+abbrev pub AscendFrom : ℕ → List ℕ → Type 0
+AscendFrom from [] = Unit {0}
+AscendFrom from (at ∷ places) = (from ≤ at) × AscendFrom (suc at) places
+
+-- this is the first of the places of two lists, and these are left of the lists
+pub record IsFirstOf (at : ℕ) (one other ones others : List ℕ) : Type 0 where
+  pub among : (k : ℕ) → (is_among k one || is_among k other) ≡ (nat_eq k at || (is_among k ones || is_among k others))
+  pub ascend : (from : ℕ) → AscendFrom from one → AscendFrom from other → (from ≤ at) × (AscendFrom (suc at) ones × AscendFrom (suc at) others)
+  pub fewer : length ones + length others < length one + length other
+
+-- these places have each that two lists have, and no other
+abbrev pub AreMerged : List ℕ → List ℕ → List ℕ → Type 0
+AreMerged one other places = (at : ℕ) → is_among at places ≡ (is_among at one || is_among at other)
+
 -- places: of each formula that passes a test its place is one of them
-abbrev pub HasPassing : (Formula → Bool) → BTreeSet ℕ → List Formula → Type 0
-HasPassing test places formulas = (at : ℕ) (formula : Formula) → slice_get formulas at ≡ Some formula → test formula ≡ true → contains nat_cmp places at ≡ true
+abbrev pub HasPassing : (Formula → Bool) → List ℕ → List Formula → Type 0
+HasPassing test places formulas = (at : ℕ) (formula : Formula) → slice_get formulas at ≡ Some formula → test formula ≡ true → is_among at places ≡ true
 
 -- no formula mentions something with one of these topics
 abbrev pub MentionsNone : List ℕ → List Formula → Type 0

@@ -2,7 +2,7 @@ ghost use Rattle.std.specs.Prelude.{◌≡◌, ◌≤◌, ◌+◌, ◌<◌, ◌&
 ghost use Rattle.std.specs.List.{slice_get};
 ghost use Rattle.ic_laws.specs.declared.tree.Formula.{Formula};
 ghost use Rattle.ic_pool.specs.Code.{code};
-ghost use Rattle.ic_pool.specs.MentionPlaces.{HasPassing};
+ghost use Rattle.ic_pool.specs.MentionPlaces.{AscendFrom, HasPassing};
 ghost use Rattle.ic_pool.specs.Rewrites.{FitsPool, changes_nothing, rewritten_by};
 ghost use Rattle.ic_pool.specs.Pool.{EndsWithNew, IsPlaced, dangling_places, first_place};
 ghost use Rattle.ic_pool.specs.Topics.{mentions_some};
@@ -22,7 +22,7 @@ use index::{all_places, dangling_in, dangling_weight, index_of, put_late, renewe
 pub use mentioning::{mentions_name, mentions_sheet};
 pub use rewrites::{Replacement, Rewrites};
 use std::alloc::Global;
-use std::collections::{BTreeSet, LinkedList};
+use std::collections::LinkedList;
 use std::marker::{Brand, Model};
 use std::sync::ledger::{Blank, Ledger};
 
@@ -284,10 +284,12 @@ impl Pool {
         }
     }
 
-    /// The places of the formulas that mention something with one of these topics, and maybe others.
-    fn places_of(&self, topics: &[u64]) -> Result<BTreeSet<usize>, OutOfMemory>
-        ensures { IfOk result (λ places.
-            HasPassing (mentions_some topics.now) places self.now.formulas) }
+    /// The places of the formulas that mention something with one of these topics, and maybe others, each once, in ascending
+    /// order.
+    fn places_of(&self, topics: &[u64]) -> Result<Vec<usize>, OutOfMemory>
+        ensures ascend { IfOk result (λ places. AscendFrom 0 places.items) }
+        ensures all { IfOk result (λ places.
+            HasPassing (mentions_some topics.now) places.items self.now.formulas) }
     {
         if self.knows_mentions {
             self.mentions.places_of(topics)

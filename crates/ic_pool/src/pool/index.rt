@@ -1,17 +1,15 @@
 ghost use Rattle.std.specs.Prelude.{◌≡◌, ◌<◌, ◌≤◌, ◌+◌, ℕ, List, [], ◌∷◌, false, true, length, option_map, IfOk, MatchOption, OnErr, OnOk};
-ghost use Rattle.std.specs.BTreeSet.{contains};
 ghost use Rattle.std.specs.List.{slice_get};
-ghost use Rattle.std.specs.Ordering.{nat_cmp};
 ghost use Rattle.ic_pool.specs.LookUp.{AreHashed, IsSame, found};
-ghost use Rattle.ic_pool.specs.MentionPlaces.{KnowsAll};
-ghost use Rattle.ic_pool.specs.Pool.{KeepsPlaces, KnowsRest, dangling_count, dangling_weight};
+ghost use Rattle.ic_pool.specs.MentionPlaces.{AscendFrom, KnowsAll};
+ghost use Rattle.ic_pool.specs.Pool.{KeepsPlaces, KnowsRest, dangling_count, dangling_weight, is_among};
 
 use crate::look_up::LookUp;
 use crate::mention_index::MentionIndex;
 use crate::{HashedKey, Steps, has_dangling, key_of};
 use ic_laws::{Formula, OutOfMemory};
 use std::alloc::Global;
-use std::collections::{BTreeSet, LinkedList};
+use std::collections::LinkedList;
 use std::sync::ledger::Ledger;
 
 /// The first place of each formula, by its key, in one step for each. It goes from the last to the first, so that the
@@ -56,13 +54,15 @@ pub fn dangling_in(formulas: &[Formula]) -> usize
     count
 }
 
-/// All places below this one.
-pub fn all_places(alloc: Global, end: usize) -> Result<BTreeSet<usize>, OutOfMemory>
-    ensures { IfOk result (λ places. (at : ℕ) → at < end → contains nat_cmp places at ≡ true) }
+/// All places below this one, in ascending order.
+pub fn all_places(alloc: Global, end: usize) -> Result<Vec<usize>, OutOfMemory>
+    ensures ascend { IfOk result (λ places. AscendFrom 0 places.items) }
+    ensures all { IfOk result (λ places. (at : ℕ)
+        → at < end → is_among at places.items ≡ true) }
 {
-    let mut places = BTreeSet::new(alloc);
+    let mut places = Vec::new(alloc);
     for at in 0..end {
-        places.insert(at)?;
+        places.push(at)?;
     }
     Ok(places)
 }

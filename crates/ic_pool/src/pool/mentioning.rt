@@ -126,7 +126,7 @@ impl Pool {
 fn passing_at<T: MentionTest>(
     alloc: Global,
     formulas: &[Formula],
-    places: &BTreeSet<usize>,
+    places: &[usize],
     test: &T,
 ) -> Result<BTreeSet<usize>, OutOfMemory>
     requires { HasPassing (some_in (T.is_sheet test.now) (T.is_word test.now)

@@ -4,7 +4,7 @@ ghost use Rattle.std.specs.Option.{unwrap_or};
 ghost use Rattle.ic_laws.specs.declared.tree.Formula.{Formula};
 ghost use Rattle.ic_pool.specs.Code.{code};
 ghost use Rattle.ic_pool.specs.LookUp.{IsEmpty};
-ghost use Rattle.ic_pool.specs.MentionPlaces.{HasAt, HasPassing, KeepsAll};
+ghost use Rattle.ic_pool.specs.MentionPlaces.{AscendFrom, HasAt, HasPassing, KeepsAll};
 ghost use Rattle.ic_pool.specs.Mentions.{formula_after, is_changed_by};
 ghost use Rattle.ic_pool.specs.Pool.{dangling_count};
 ghost use Rattle.ic_pool.specs.Remade.{LeavesUntouched, touched_from};
@@ -17,7 +17,7 @@ use crate::mention_index::MentionIndex;
 use crate::{BookChange, HashedKey, Remaking, changed_formula, key_of, remade_formula};
 use ic_laws::{Formula, OutOfMemory};
 use std::alloc::Global;
-use std::collections::{BTreeSet, LinkedList};
+use std::collections::LinkedList;
 use std::marker::Model;
 
 /// A formula that becomes another.
@@ -307,16 +307,18 @@ impl Rewrites {
 }
 
 /// What a change does to formulas whose words are looked up from the sheet with this id, or from none. Those that it changes
-/// stand at some of these places. The keys that they had are kept where `keeps_keys` is true.
+/// stand at some of these places, which ascend. The keys that they had are kept where `keeps_keys` is true.
 pub fn rewrites_at<C: BookChange>(
     alloc: Global,
     formulas: &[Formula],
-    places: &BTreeSet<usize>,
+    places: &[usize],
     change: &C,
     scope: Option<u32>,
     keeps_keys: bool,
 ) -> Result<Rewrites, OutOfMemory>
-    requires { HasPassing (is_changed_by (C.change change.now) scope) places.now formulas.now }
+    requires ascend { AscendFrom 0 places.now }
+    requires places { HasPassing (is_changed_by (C.change change.now) scope) places.now
+        formulas.now }
     ensures made { IfOk result (λ w. rewritten_by w formulas.now
         ≡ map (formula_after (C.change change.now) scope) formulas.now) }
     ensures listed { IfOk result (ListsChanged (C.change change.now) scope formulas.now) }
@@ -330,16 +332,17 @@ pub fn rewrites_at<C: BookChange>(
 }
 
 /// What becomes of formulas that are made anew, if the rule leaves each that it doesn't touch. Those that it touches stand
-/// at some of these places. The keys that they had are kept where `keeps_keys` is true.
+/// at some of these places, which ascend. The keys that they had are kept where `keeps_keys` is true.
 pub fn rewrites_remade<R: Remaking>(
     alloc: Global,
     formulas: &[Formula],
-    places: &BTreeSet<usize>,
+    places: &[usize],
     remaking: &R,
     scope: Option<u32>,
     keeps_keys: bool,
 ) -> Result<Rewrites, OutOfMemory>
     requires leaves { AllByRecursion (LeavesUntouched (R.made remaking.now) scope) formulas.now }
+    requires ascend { AscendFrom 0 places.now }
     requires places { HasPassing ((R.made remaking.now).touches scope) places.now formulas.now }
     ensures made { IfOk result (λ w. rewritten_by w formulas.now
         ≡ map ((R.made remaking.now).becomes scope) formulas.now) }

@@ -1,4 +1,4 @@
-use Rattle.std.proofs.Common.{◌∙◌, ap, subst, sym}
+use Rattle.std.proofs.Common.{◌∙◌, ℕ, List, ap, subst, sym}
 use Rattle.ic_pool.specs.MentionPlaces.{HasPassing}
 use Rattle.ic_pool.specs.Mentions.{formula_after, is_changed_by}
 use Rattle.ic_pool.specs.Pool.{PoolState}
@@ -15,9 +15,11 @@ returns-then-mentions_none g c =
     c.new.result c.new.ensures.changes c.new.ensures.places c.new.ensures.keys (λ k x e. c.requires c.args.scope x (c.mentions_none.ensures c.if-mentions_none.true k x e)) in
     record { made = nothing.made; listed = nothing.listed; fits = nothing.fits }
 
-pub rewrites_at-requires : goal.rewrites_at-requires
-rewrites_at-requires g c =
+pub rewrites_at-requires-clause-places : goal.rewrites_at-requires-clause-places
+rewrites_at-requires-clause-places g c =
     let same = c.deref.ensures.value ∙ ap (λ (s : PoolState). s.formulas) c.self.view_is in
     let about = mentions_some c.args.topics.now in
-    narrower about (is_changed_by (g.C.BookChange.change c.args.change.now) c.args.scope) c.in_ok-places.places c.deref.result.now (λ x e. c.requires c.args.scope x e)
-    (subst (HasPassing about c.in_ok-places.places) (sym same) c.in_ok-places.ensures)
+    let has = subst (λ (ps : List ℕ). HasPassing about ps c.args.self.now.formulas) (sym c.deref-2.ensures.value) c.in_ok-places.ensures.all in
+    narrower about (is_changed_by (g.C.BookChange.change c.args.change.now) c.args.scope) c.deref-2.result.now c.deref.result.now
+    (λ x e. c.requires c.args.scope x e)
+    (subst (HasPassing about c.deref-2.result.now) (sym same) has)

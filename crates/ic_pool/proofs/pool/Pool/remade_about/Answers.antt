@@ -1,4 +1,4 @@
-use Rattle.std.proofs.Common.{◌∙◌, ap, subst, sym}
+use Rattle.std.proofs.Common.{◌∙◌, ℕ, List, ap, subst, sym}
 use Rattle.ic_pool.specs.MentionPlaces.{HasPassing}
 use Rattle.ic_pool.specs.Pool.{PoolState}
 use Rattle.ic_pool.specs.Remade.{LeavesUntouched}
@@ -19,5 +19,7 @@ pub rewrites_remade-requires-clause-places : goal.rewrites_remade-requires-claus
 rewrites_remade-requires-clause-places g c =
     let same = c.deref.ensures.value ∙ ap (λ (s : PoolState). s.formulas) c.self.view_is in
     let about = mentions_some c.args.topics.now in
-    narrower about ((g.R.Remaking.made c.args.remaking.now).touches c.args.scope) c.in_ok-places.places c.deref.result.now (λ x e. c.requires.about c.args.scope x e)
-    (subst (HasPassing about c.in_ok-places.places) (sym same) c.in_ok-places.ensures)
+    let has = subst (λ (ps : List ℕ). HasPassing about ps c.args.self.now.formulas) (sym c.deref-2.ensures.value) c.in_ok-places.ensures.all in
+    narrower about ((g.R.Remaking.made c.args.remaking.now).touches c.args.scope) c.deref-2.result.now c.deref.result.now
+    (λ x e. c.requires.about c.args.scope x e)
+    (subst (HasPassing about c.deref-2.result.now) (sym same) has)

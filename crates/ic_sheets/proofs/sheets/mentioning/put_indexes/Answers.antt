@@ -1,12 +1,20 @@
-use Rattle.std.proofs.Common.{◌≡◌, ◌∙◌, Some, None, ap, get_or, inl, inr, subst, sym, true}
-use Rattle.std.specs.BTreeSet.{contains}
-use Rattle.std.specs.Ordering.{nat_cmp}
+use Rattle.std.proofs.Common.{◌≡◌, ◌∙◌, ℕ, Bool, Some, None, ap, cond, false, get_or, inl, inr, refl, subst, sym, true}
+use Rattle.std.specs.BTreeSet.{BTreeSet, Updates, contains}
+use Rattle.std.specs.Ordering.{is_eq, nat_cmp}
 use Rattle.std.specs.Prelude.{nat_eq}
 use Rattle.std.proofs.lemmas.Bool.{eqb-true}
-use Rattle.ic_pool.proofs.PlaceLemmas.{any_more, still_in}
+use Rattle.ic_pool.proofs.PlaceLemmas.{any_more}
 use Rattle.ic_sheets.specs.Spots.{index_at}
 use Rattle.ic_sheets.proofs.sheets.mentioning.put_indexes.Goals as goal
 use Rattle.ic_sheets.proofs.sheets.mentioning.put_indexes.Goals.{in-Some+in_ok-insert, in_default}
+
+either_way : (b : Bool) → cond b true true ≡ true
+either_way true = refl
+either_way false = refl
+
+-- an index that was in a set still is when one is put in
+still_in : (before after : BTreeSet ℕ) (k q : ℕ) → Updates nat_cmp before after k true → contains nat_cmp before q ≡ true → contains nat_cmp after q ≡ true
+still_in before after k q u e = u.0 q ∙ ap (cond (is_eq (nat_cmp k q)) true) e ∙ either_way (is_eq (nat_cmp k q))
 
 pub loop-id-preserved : goal.loop-id-preserved
 loop-id-preserved c =

@@ -3,7 +3,7 @@ use Rattle.std.specs.Prelude.{nat_eq}
 use Rattle.std.proofs.lemmas.Bool.{eqb-true}
 use Rattle.ic_pool.specs.MentionPlaces.{has_place}
 use Rattle.ic_pool.proofs.PlaceLemmas.{any_more}
-use Rattle.ic_pool.proofs.mention_index.MentionIndex.put_all.Goals as goal
+use Rattle.ic_pool.proofs.mention_index.TopicPlaces.put_all.Goals as goal
 
 pub loop-topic-preserved : goal.loop-topic-preserved
 loop-topic-preserved c = record {
