@@ -1,5 +1,5 @@
 -- The look-up by pairs of a folded name and a scope, read by the keys of definitions.
-use Rattle.std.proofs.Common.{◌≡◌, ℕ, List, [], ◌∷◌, Bool, true, false, cond, ◌&&◌, not, Option, Some, None, refl, sym, ap, ap₂, ◌∙◌, bytes_eq, encode_utf8_all, nat_eq, string_bytes}
+use Rattle.std.proofs.Common.{◌≡◌, ℕ, List, [], ◌∷◌, Bool, true, false, cond, ◌&&◌, not, Option, Some, None, option_map, refl, sym, ap, ap₂, ◌∙◌, bytes_eq, encode_utf8_all, nat_eq, string_bytes}
 use Rattle.std.specs.Bool.{one_answer}
 use Rattle.std.specs.BTreeMap.{IsOrdered, Updates, get, get_by, is_at}
 use Rattle.std.specs.Cmp.{IsEquivalence, IsTotalOrder, eq_by_cmp_equiv, nat_cmp_total, on_total, then_total, unsigned_ties}
@@ -124,21 +124,34 @@ others : {K X : Type 0} (eq : K → K → Bool) (test other : K → Bool) (old n
 unfolding KeepsOthers
 others eq test other old new h = h other
 
+held_as : (q : NameKey) (held : HeldKey) → is_held_key q held ≡ true → IsHeldKey q held
+held_as q held t =
+    let parts = and_parts (bytes_eq (string_bytes held.0) (encode_utf8_all q.name)) (same_scope held.1 q.scope) t in
+    ((bytes_eq-Decides (string_bytes held.0) (encode_utf8_all q.name)).0 parts.0, same_scope_from held.1 q.scope parts.1)
+
 -- after a change at a key
 pub written : (before after : Places) (held : HeldKey) (place : Option ℕ) → Updates held_cmp before after held place → (q : NameKey) → place_at after q ≡ cond (is_held_key q held) place (place_at before q)
 written before after held place u q = step (is_held_key q held) refl
   where
-    there : is_held_key q held ≡ true → IsHeldKey q held
-    there t = let parts = and_parts (bytes_eq (string_bytes held.0) (encode_utf8_all q.name)) (same_scope held.1 q.scope) t in ((bytes_eq-Decides (string_bytes held.0) (encode_utf8_all q.name)).0 parts.0, same_scope_from held.1 q.scope parts.1)
-
     apart : is_held_key q held ≡ false → AreApart (is_at (held_cmp held)) (is_at (key_cmp (encode_utf8_all q.name) q.scope))
     apart f k t =
         let parts = same_parts held k t in
         key_is_at q k ∙ ap₂ (λ bs s. bytes_eq bs (encode_utf8_all q.name) && same_scope s q.scope) (sym parts.0) (sym parts.1) ∙ f
 
     step : (b : Bool) → is_held_key q held ≡ b → place_at after q ≡ cond b place (place_at before q)
-    step true t = sym (at_held after q held (there t)) ∙ u.1
+    step true t = sym (at_held after q held (held_as q held t)) ∙ u.1
     step false f = others (eq_by_cmp held_cmp) (is_at (held_cmp held)) (is_at (key_cmp (encode_utf8_all q.name) q.scope)) before.entries after.entries u.3 (key_test (encode_utf8_all q.name) q.scope) (apart f)
+
+-- where an index is put over another
+pub put_over : (before after : Places) (held : HeldKey) (had index : ℕ) → Some had ≡ get held_cmp before held → Updates held_cmp before after held (Some index)
+    → (q : NameKey) → place_at after q ≡ cond (is_held_key q held) (option_map (λ old. index) (place_at before q)) (place_at before q)
+put_over before after held had index found u q =
+    written before after held (Some index) u q ∙ step (is_held_key q held) (λ t. sym (at_held before q held (held_as q held t)) ∙ sym found)
+  where
+    step : (b : Bool) → (b ≡ true → place_at before q ≡ Some had)
+        → cond b (Some index) (place_at before q) ≡ cond b (option_map (λ old. index) (place_at before q)) (place_at before q)
+    step true h = sym (ap (option_map (λ old. index)) (h refl))
+    step false h = refl
 
 pub updated : (before after : Places) (held : HeldKey) (key : NameKey) (place : Option ℕ) → Updates held_cmp before after held place → IsHeldKey key held
     → (q : NameKey) → place_at after q ≡ cond (same_key key q) place (place_at before q)

@@ -3,6 +3,7 @@ pub mod BodyLemmas
 pub mod FindingLemmas
 pub mod GoneDefinitions
 pub mod HeldKeys
+pub mod LoweredPlaces
 pub mod MentionedBodies
 pub mod NamedLemmas
 pub mod NamesFacts

@@ -17,7 +17,7 @@ use Rattle.ic_laws.specs.Scene.{same_key}
 use Rattle.ic_laws.specs.declared.tree.NameKey.{NameKey}
 use Rattle.ic_pool.proofs.KeyLemmas.{clash}
 use Rattle.ic_definitions.specs.Bodies.{HasFoundAll}
-use Rattle.ic_definitions.specs.Named.{AreNamed, FindsNames, HeldKey, IsHeldKey, Places, index_with_key, key_in, lowered, place_at, scopes_of}
+use Rattle.ic_definitions.specs.Named.{AreNamed, FindsNames, HeldKey, IsHeldKey, Places, index_with_key, key_in, place_at, raised, scopes_of}
 use Rattle.ic_definitions.proofs.FindingLemmas.{has_key}
 use Rattle.ic_definitions.proofs.HeldKeys.{held_cmp, updated}
 
@@ -137,19 +137,22 @@ named_pushed last now_last may may_now ds others list d named same free most cle
 
 -- ---- a definition goes
 
-lowered_first : (place : Option ℕ) → option_map (lowered 0) (option_map suc place) ≡ place
-lowered_first None = refl
-lowered_first (Some n) = ap (λ k. Some k) (less n)
+raised_first : (place : Option ℕ) → option_map suc place ≡ option_map (raised 0) place
+raised_first None = refl
+raised_first (Some n) = ap (λ k. Some k) (more n)
   where
-    less : (n : ℕ) → lowered 0 (suc n) ≡ n
-    less n = grind arith
+    more : (n : ℕ) → suc n ≡ raised 0 n
+    more n = grind arith
 
-lowered_later : (index : ℕ) (place : Option ℕ) → option_map (lowered (suc index)) (option_map suc place) ≡ option_map suc (option_map (lowered index) place)
-lowered_later index None = refl
-lowered_later index (Some n) = ap (λ k. Some k) (less index n)
+pub raised_later : (index : ℕ) (place : Option ℕ) → option_map suc (option_map (raised index) place) ≡ option_map (raised (suc index)) (option_map suc place)
+raised_later index None = refl
+raised_later index (Some n) = ap (λ k. Some k) (more index n)
   where
-    less : (index n : ℕ) → lowered (suc index) (suc n) ≡ suc (lowered index n)
-    less index n = grind arith
+    more : (index n : ℕ) → suc (raised index n) ≡ raised (suc index) (suc n)
+    more index n = grind arith
+
+pub first_stays : (index : ℕ) → 0 ≡ raised (suc index) 0
+first_stays index = grind arith
 
 -- a key that others have apart from it
 pub no_place : (key : NameKey) (ds : List Definition) → AllByRecursion (λ k. same_key key k ≡ false) (keys ds) → index_with_key key ds ≡ None
@@ -161,52 +164,55 @@ one_of P [] index d lt read h = absurd (omega arith)
 one_of P (x ∷ ds) zero d lt read h = subst (λ y. P (key_in y)) (sym read) h.0
 one_of P (x ∷ ds) (suc index) d lt read h = one_of P ds index d (omega arith) read h.1
 
--- its key finds nothing then, and later ones stand one place lower
+-- its key finds nothing then, and later ones stood one place further
 place_removed : (ds : List Definition) (index : ℕ) (d : Definition) → index < length ds → d ≡ get_or ds index d → IsDistinct same_key (keys ds)
-    → (q : NameKey) → index_with_key q (remove ds index) ≡ option_map (lowered index) (cond (same_key (key_in d) q) None (index_with_key q ds))
+    → (q : NameKey) → cond (same_key (key_in d) q) None (index_with_key q ds) ≡ option_map (raised index) (index_with_key q (remove ds index))
 place_removed [] index d lt read differ q = absurd (omega arith)
 place_removed (x ∷ ds) zero d lt read differ q =
-    subst (λ y. index_with_key q ds ≡ option_map (lowered 0) (cond (same_key (key_in y) q) None (index_with_key q (x ∷ ds)))) (sym read)
+    subst (λ y. cond (same_key (key_in y) q) None (index_with_key q (x ∷ ds)) ≡ option_map (raised 0) (index_with_key q ds)) (sym read)
     (step (same_key (key_in x) q) (λ t. ap (λ k. index_with_key k ds) (sym (same_key_from (key_in x) q t)) ∙ no_place (key_in x) ds (IsDistinct-head same_key (key_in x) (keys ds) differ)))
   where
-    step : (b : Bool) → (b ≡ true → index_with_key q ds ≡ None) → index_with_key q ds ≡ option_map (lowered 0) (cond b None (cond b (Some 0) (option_map suc (index_with_key q ds))))
-    step true none = none refl
-    step false none = sym (lowered_first (index_with_key q ds))
+    step : (b : Bool) → (b ≡ true → index_with_key q ds ≡ None)
+        → cond b None (cond b (Some 0) (option_map suc (index_with_key q ds))) ≡ option_map (raised 0) (index_with_key q ds)
+    step true none = sym (ap (option_map (raised 0)) (none refl))
+    step false none = raised_first (index_with_key q ds)
 place_removed (x ∷ ds) (suc index) d lt read differ q =
     let apart : same_key (key_in x) (key_in d) ≡ false = one_of (λ k. same_key (key_in x) k ≡ false) ds index d (omega arith) read (IsDistinct-head same_key (key_in x) (keys ds) differ) in
-    ap (λ place. cond (same_key (key_in x) q) (Some 0) (option_map suc place)) (place_removed ds index d (omega arith) read (IsDistinct-tail same_key (key_in x) (keys ds) differ) q)
-    ∙ step (same_key (key_in x) q) (same_key (key_in d) q) (index_with_key q ds)
+    step (same_key (key_in x) q) (same_key (key_in d) q)
     (λ t u. clash (same_key (key_in x) (key_in d)) (ap (same_key (key_in x)) (same_key_from (key_in d) q u) ∙ t) apart)
+    (place_removed ds index d (omega arith) read (IsDistinct-tail same_key (key_in x) (keys ds) differ) q)
   where
-    first_stays : (index : ℕ) → lowered (suc index) 0 ≡ 0
-    first_stays index = grind arith
-
-    step : (b c : Bool) (place : Option ℕ) → (b ≡ true → c ≡ true → ⊥)
-        → cond b (Some 0) (option_map suc (option_map (lowered index) (cond c None place))) ≡ option_map (lowered (suc index)) (cond c None (cond b (Some 0) (option_map suc place)))
-    step true true place h = absurd (h refl refl)
-    step true false place h = ap (λ n. Some n) (sym (first_stays index))
-    step false true place h = refl
-    step false false place h = sym (lowered_later index place)
+    step : (b c : Bool) → (b ≡ true → c ≡ true → ⊥) → cond c None (index_with_key q ds) ≡ option_map (raised index) (index_with_key q (remove ds index))
+        → cond c None (cond b (Some 0) (option_map suc (index_with_key q ds)))
+        ≡ option_map (raised (suc index)) (cond b (Some 0) (option_map suc (index_with_key q (remove ds index))))
+    step true true h e = absurd (h refl refl)
+    step true false h e = ap (λ n. Some n) (first_stays index)
+    step false true h e = ap (option_map suc) e ∙ raised_later index (index_with_key q (remove ds index))
+    step false false h e = ap (option_map suc) e ∙ raised_later index (index_with_key q (remove ds index))
 
 pub keys_removed : (ds others list : List Definition) (index : ℕ) → keys others ≡ keys ds → list ≡ remove others index → keys list ≡ remove (keys ds) index
 keys_removed ds others list index same removed = ap keys removed ∙ removed_seen key_in others index ∙ ap (λ ks. remove ks index) same
 
 -- from among others, which may have got other bodies
-pub finds_removed : (before between after : Places) (last index : ℕ) (may : Bool) (ds others list : List Definition) (d : Definition) (held : HeldKey) → AreNamed last may ds → FindsNames before ds → keys others ≡ keys ds
-    → index < length ds → d ≡ get_or ds index d → IsHeldKey (key_in d) held → Updates held_cmp before between held None
-    → ((key : NameKey) → place_at after key ≡ option_map (lowered index) (place_at between key)) → list ≡ remove others index → FindsNames after list
-finds_removed before between after last index may ds others list d held named finds same lt read coded u low removed =
-    finds_same after (remove ds index) list
-    (λ q.
-    low q
-    ∙ ap (option_map (lowered index)) (updated before between held (key_in d) None u coded q ∙ ap (cond (same_key (key_in d) q) None) (finds q))
-    ∙ sym (place_removed ds index d lt read named.differ q))
-    (keys_removed ds others list index same removed ∙ sym (removed_seen key_in ds index))
+pub finds_raised : (before after : Places) (last index : ℕ) (may : Bool) (ds others list : List Definition) (d : Definition) (held : HeldKey)
+    → AreNamed last may ds → FindsNames before ds → keys others ≡ keys ds
+    → index < length ds → d ≡ get_or ds index d → IsHeldKey (key_in d) held → Updates held_cmp before after held None → list ≡ remove others index
+    → (q : NameKey) → place_at after q ≡ option_map (raised index) (index_with_key q list)
+finds_raised before after last index may ds others list d held named finds same lt read coded u removed q =
+    updated before after held (key_in d) None u coded q
+    ∙ ap (cond (same_key (key_in d) q) None) (finds q)
+    ∙ place_removed ds index d lt read named.differ q
+    ∙ ap (option_map (raised index)) (same_place (remove ds index) list (removed_seen key_in ds index ∙ sym (keys_removed ds others list index same removed)) q)
+
+pub differ_removed : (ds others list : List Definition) (index : ℕ) → IsDistinct same_key (keys ds) → keys others ≡ keys ds → list ≡ remove others index
+    → IsDistinct same_key (keys list)
+differ_removed ds others list index differ same removed =
+    subst (IsDistinct same_key) (sym (keys_removed ds others list index same removed)) (distinct_removed same_key_equiv (keys ds) index differ)
 
 pub named_removed : (last now_last index : ℕ) (may may_now : Bool) (ds others list : List Definition) → AreNamed last may ds → keys others ≡ keys ds → now_last ≡ greatest (scopes_of list) → (may_now ≡ false → AllByRecursion HasFoundAll others)
     → list ≡ remove others index → AreNamed now_last may_now list
 named_removed last now_last index may may_now ds others list named same most clean removed = record {
-  differ = subst (IsDistinct same_key) (sym (keys_removed ds others list index same removed)) (distinct_removed same_key_equiv (keys ds) index named.differ);
+  differ = differ_removed ds others list index named.differ same removed;
   greatest = most;
   dangles = λ e. subst (AllByRecursion HasFoundAll) (sym removed) (all_removed HasFoundAll others index (clean e));
 }

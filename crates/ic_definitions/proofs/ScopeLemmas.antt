@@ -1,20 +1,12 @@
--- The greatest id that definitions are local to, when one of them goes or another stands in its place; and the places of keys
--- where the last one goes.
-use Rattle.std.proofs.Common.{◌≡◌, ℕ, zero, suc, ◌+◌, ◌<◌, ◌≤◌, List, [], ◌∷◌, Bool, true, false, cond, Option, Some, None, IfSome, option_map, option_to_list, max, length, get_or, refl, sym, ap, ◌∙◌, remove, subst, take, arith}
-use Rattle.std.proofs.lemmas.Bool.Decides.{nat_tests}
-use Rattle.std.specs.BTreeMap.{Updates}
+-- The greatest id that definitions are local to, when one of them goes or another stands in its place.
+use Rattle.std.proofs.Common.{◌≡◌, ℕ, zero, suc, ◌<◌, ◌≤◌, List, [], ◌∷◌, option_to_list, max, length, get_or, sym, ap, ◌∙◌, remove, take, arith}
 use Rattle.ic_laws.proofs.core.Lists.{removed_seen}
 use Rattle.ic_laws.specs.CoreBook.{Definition}
 use Rattle.ic_laws.specs.CoreStep.{updated_at}
 use Rattle.ic_laws.specs.Greatest.{greatest}
-use Rattle.ic_laws.specs.Scene.{same_key}
-use Rattle.ic_laws.specs.declared.tree.NameKey.{NameKey}
-use Rattle.ic_definitions.specs.Named.{FindsNames, HeldKey, IsHeldKey, Places, index_with_key, key_in, lowered, place_at, scopes_of}
-use Rattle.ic_definitions.proofs.HeldKeys.{held_cmp, updated}
+use Rattle.ic_definitions.specs.Named.{key_in, scopes_of}
 use Rattle.ic_definitions.proofs.NamedLemmas.{greatest_joined, keys, keys_removed, same_scopes}
 use Rattle.ic_definitions.proofs.ReplacedNames.{keys_replaced, keys_updated}
-
--- ---- scopes
 
 -- the id that a definition is local to, 0 where it is local to none
 abbrev of_one : Definition → ℕ
@@ -82,34 +74,3 @@ pub greatest_taken : (n : ℕ) (ds : List Definition) → of_all (take n ds) ≤
 greatest_taken zero ds = omega arith
 greatest_taken (suc n) [] = omega arith
 greatest_taken (suc n) (x ∷ ds) = let rest = greatest_taken n ds in let one = of_more x (take n ds) in let all = of_more x ds in omega (arith, rest, one, all)
-
--- ---- places
-
-index_below : (key : NameKey) (ds : List Definition) → IfSome (index_with_key key ds) (λ place. place < length ds)
-index_below key [] = tt
-index_below key (x ∷ ds) = step (same_key (key_in x) key) (index_with_key key ds) (index_below key ds)
-  where
-    step : (b : Bool) (place : Option ℕ) → IfSome place (λ p. p < length ds) → IfSome (cond b (Some 0) (option_map suc place)) (λ p. p < suc (length ds))
-    step true place h = omega arith
-    step false None h = tt
-    step false (Some p) h = omega (arith, h)
-
--- where the key of one is taken out, each that is found stands at the last place or before
-pub places_within : (before between : Places) (ds : List Definition) (d : Definition) (held : HeldKey) (last : ℕ) → FindsNames before ds → IsHeldKey (key_in d) held → Updates held_cmp before between held None → last + 1 ≡ length ds
-    → (key : NameKey) → IfSome (place_at between key) (λ place. place ≤ last)
-places_within before between ds d held last finds coded u counted key =
-    subst (λ place. IfSome place (λ p. p ≤ last)) (sym (updated before between held (key_in d) None u coded key ∙ ap (cond (same_key (key_in d) key) None) (finds key)))
-    (step (same_key (key_in d) key) (index_with_key key ds) (index_below key ds))
-  where
-    step : (b : Bool) (place : Option ℕ) → IfSome place (λ p. p < length ds) → IfSome (cond b None place) (λ p. p ≤ last)
-    step true place h = tt
-    step false None h = tt
-    step false (Some p) h = omega (arith, h, counted)
-
--- none is lowered where the last one goes
-pub none_lowered : (index : ℕ) (place : Option ℕ) → IfSome place (λ p. p ≤ index) → place ≡ option_map (lowered index) place
-none_lowered index None h = refl
-none_lowered index (Some p) h = ap (λ n. Some n) (same p h)
-  where
-    same : (p : ℕ) → p ≤ index → p ≡ lowered index p
-    same p h = grind (arith, nat_tests, h)

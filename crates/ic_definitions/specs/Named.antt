@@ -1,5 +1,5 @@
 -- What finds the definitions of a book, and when it is true of them.
-use Rattle.std.specs.Prelude.{◌≡◌, ℕ, suc, ◌-◌, nat_eq, nat_lt, List, [], ◌∷◌, map, flat_map, Bool, ◌&&◌, false, Option, Some, None, String, bytes_eq, encode_utf8_all, option_map, option_to_list, string_bytes, if◌then◌else◌}
+use Rattle.std.specs.Prelude.{◌≡◌, ℕ, suc, ◌+◌, ◌-◌, nat_eq, nat_lt, List, [], ◌∷◌, map, flat_map, Bool, ◌&&◌, false, Option, Some, None, String, bytes_eq, encode_utf8_all, option_map, option_to_list, string_bytes, if◌then◌else◌}
 use Rattle.std.specs.BTreeMap.{BTreeMap, get_by}
 use Rattle.std.specs.Cmp.Lexicographic.{slice_cmp}
 use Rattle.std.specs.List.{AllByRecursion, IsDistinct}
@@ -45,6 +45,10 @@ is_there index (Some place) = nat_eq place index
 -- an index, lowered by one where it is past this one
 abbrev pub lowered : ℕ → ℕ → ℕ
 lowered index place = if nat_lt index place then place - 1 else place
+
+-- an index, raised by one unless it is before this one
+abbrev pub raised : ℕ → ℕ → ℕ
+raised index place = if nat_lt place index then place else place + 1
 
 -- the ids that definitions are local to
 abbrev pub scopes_of : List Definition → List ℕ

@@ -1,5 +1,5 @@
 //! Definitions come and go, and what their bodies mention changes.
-ghost use Rattle.std.specs.Prelude.{◌≡◌, ◌<◌, ◌≤◌, ◌++◌, [], ◌∷◌, IfOk, IfSome, None, OnErr, OnOk, Some, cond, false, length, map, max, option_map, option_to_list, remove, take};
+ghost use Rattle.std.specs.Prelude.{◌≡◌, ◌<◌, ◌≤◌, ◌++◌, [], ◌∷◌, IfOk, None, OnErr, OnOk, Some, cond, false, length, map, max, option_map, option_to_list, remove, take};
 ghost use Rattle.std.specs.List.{AllByRecursion, IsDistinct, list_any, slice_get};
 ghost use Rattle.ic_laws.specs.BookTrees.{with_body_tree};
 ghost use Rattle.ic_laws.specs.Changes.{changed_tree, definition_added, definition_gone};
@@ -9,7 +9,7 @@ ghost use Rattle.ic_laws.specs.Greatest.{greatest};
 ghost use Rattle.ic_laws.specs.Scene.{same_key};
 ghost use Rattle.ic_laws.specs.declared.tree.NameKey.{NameKey};
 ghost use Rattle.ic_definitions.specs.Bodies.{FitsBodies, StaysWhereFound, with_bodies};
-ghost use Rattle.ic_definitions.specs.Named.{FindsNames, IsHeldKey, StillFinds, definitions_scene, is_held_key, key_in, lowered, place_at, scopes_of};
+ghost use Rattle.ic_definitions.specs.Named.{FindsNames, IsHeldKey, StillFinds, definitions_scene, index_with_key, is_held_key, key_in, lowered, place_at, raised, scopes_of};
 
 use super::Definitions;
 use crate::definition::held_key;
@@ -18,6 +18,10 @@ use ic_laws::{Formula, OutOfMemory};
 use ic_pool::has_dangling;
 use std::alloc::Global;
 use std::collections::BTreeMap;
+
+/// To find the place of a definition by its key costs about as much as to go over this many places: 85 were measured among
+/// 10,000 definitions, where the processor holds them at hand, and 36 among 100,000.
+const PLACES_PER_SEARCH: usize = 64;
 
 impl Definitions {
     /// Gives the definitions the bodies that were prepared.
@@ -258,14 +262,14 @@ impl Definitions {
         ensures err { OnErr result (self.new ≡ self.old) }
         ensures finds { FindsNames places.new self.new }
     {
-        let key = key_in(self.alloc, &self.list[index])?;
+        let mut key = key_in(self.alloc, &self.list[index])?;
         let gone = scope_or_zero(&self.list[index]);
         self.may_dangle = rewrites.may_dangle;
         self.mentioned.note_all(rewrites.bodies());
         rewrites.put(&mut self.list);
         places.remove(&key);
         self.list.remove(index);
-        renumber(places, index, self.list.len());
+        lower(places, &mut key, &self.list, index);
         self.greatest = greatest_left(&self.list, self.greatest, gone);
         self.mentioned.renew(&self.list);
         Ok(())
@@ -302,15 +306,80 @@ fn replace_key(
     Ok(())
 }
 
-/// The indexes after the one that is taken away are lowered by one. No index is past the last one.
-fn renumber(places: &mut BTreeMap<(String, Option<u32>), usize>, index: usize, last: usize)
-    requires { (key : NameKey) → IfSome (place_at places.old key) (λ place. place ≤ last) }
+/// These are the definitions after the one at this index, from 0, was taken away: those behind it stand one before. The
+/// key is written over.
+fn lower(
+    places: &mut BTreeMap<(String, Option<u32>), usize>,
+    key: &mut (String, Option<u32>),
+    definitions: &[Definition],
+    index: usize,
+)
+    requires differ { IsDistinct same_key (map key_in definitions.now) }
+    requires within { index ≤ length definitions.now }
+    requires before { (q : NameKey) → place_at places.old q
+        ≡ option_map (raised index) (index_with_key q definitions.now) }
+    ensures { FindsNames places.new definitions.now }
+{
+    let end = definitions.len();
+    if end - index <= end / PLACES_PER_SEARCH {
+        renumber(places, key, definitions, index);
+    } else {
+        lower_all(places, index);
+    }
+}
+
+/// The same, by the keys of those that stand behind. Where there is no memory for one of them, all places are gone over.
+fn renumber(
+    places: &mut BTreeMap<(String, Option<u32>), usize>,
+    key: &mut (String, Option<u32>),
+    definitions: &[Definition],
+    index: usize,
+)
+    requires differ { IsDistinct same_key (map key_in definitions.now) }
+    requires within { index ≤ length definitions.now }
+    requires before { (q : NameKey) → place_at places.old q
+        ≡ option_map (raised index) (index_with_key q definitions.now) }
+    ensures { FindsNames places.new definitions.now }
+{
+    for at in index..definitions.len() {
+        let Ok(()) = write_key(key, &definitions[at]) else {
+            lower_all(places, at);
+            return;
+        };
+        replace_place(places, key, at);
+    }
+}
+
+/// Writes the key of a definition over another. After `OutOfMemory` it isn't known what stands there.
+fn write_key(key: &mut (String, Option<u32>), definition: &Definition) -> Result<(), OutOfMemory>
+    ensures { OnOk result (IsHeldKey (key_in definition.now) key.new) }
+{
+    let wanted = definition.key();
+    key.0.clear();
+    key.0.push_str(wanted.name.as_str())?;
+    key.1 = wanted.scope;
+    Ok(())
+}
+
+/// Puts another index in at a key, where there is one.
+fn replace_place(
+    places: &mut BTreeMap<(String, Option<u32>), usize>,
+    key: &(String, Option<u32>),
+    index: usize,
+)
+    ensures { (q : NameKey) → place_at places.new q ≡ cond (is_held_key q key.now)
+        (option_map (λ had. index) (place_at places.old q)) (place_at places.old q) }
+{
+    if let Some(place) = places.get_mut(key) {
+        *place = index;
+    }
+}
+
+/// All indexes after this one are lowered by one.
+fn lower_all(places: &mut BTreeMap<(String, Option<u32>), usize>, index: usize)
     ensures { (key : NameKey) → place_at places.new key
         ≡ option_map (lowered index) (place_at places.old key) }
 {
-    if index == last {
-        return;
-    }
     places.retain(|_, place| {
         *place = lowered(*place, index);
         true

@@ -1,14 +1,25 @@
-use Rattle.std.proofs.Common.{◌≤◌, IfSome, encode_utf8_all, rules, subst, sym}
-use Rattle.std.specs.BTreeMap.{is_at}
-use Rattle.std.proofs.lemmas.Map.Made.{lookup-map_values, map_same_pairs}
-use Rattle.ic_definitions.specs.Named.{key_cmp, lowered, place_at}
-use Rattle.ic_definitions.proofs.ScopeLemmas.{none_lowered}
+use Rattle.std.proofs.Common.{◌≡◌, ◌+◌, ◌<◌, ◌∙◌, ap, arith, length, option_map, suc}
+use Rattle.ic_laws.specs.Scene.{same_key}
+use Rattle.ic_definitions.specs.Named.{index_with_key, key_in, place_at, raised}
+use Rattle.ic_definitions.proofs.HeldKeys.{same_held}
+use Rattle.ic_definitions.proofs.LoweredPlaces.{next_placed, none_raised, placed}
 use Rattle.ic_definitions.proofs.definitions.changes.renumber.Goals as goal
 
-pub returns-then-index-last : goal.returns-then-index-last
-returns-then-index-last c = λ key. none_lowered c.args.index (place_at c.args.places.now key) (subst (λ n. IfSome (place_at c.args.places.now key) (λ place. place ≤ n)) (sym c.if-index-last.true) (c.requires key))
+pub loop-at-preserved : goal.loop-at-preserved
+loop-at-preserved c = λ q.
+    let ds = c.args.definitions.now in
+    let at = c.loop-at.at in
+    let d = c.index-definitions-at.result in
+    let lt : at < length ds = omega arith in
+    let next : suc at ≡ at + 1 = omega arith in
+    c.replace_place.ensures q
+    ∙ ap (λ b. placed b at (place_at c.loop-at.places q)) (same_held (key_in d) q c.write_key.new.key c.in-Ok.ensures)
+    ∙ ap (placed (same_key (key_in d) q) at) (c.loop-at.invariant q)
+    ∙ next_placed ds at d lt c.index-definitions-at.is c.requires.differ q
+    ∙ ap (λ n. option_map (raised n) (index_with_key q ds)) next
 
 pub returns : goal.returns
-returns c =
-    let e = map_same_pairs _ (lowered c.args.index) _ (λ k v b w f' t. search rules) _ _ c.retain.ensures.filtered in
-    λ q. rw e (lookup-map_values (lowered c.args.index) (is_at (key_cmp (encode_utf8_all q.name) q.scope)) c.args.places.now.entries)
+returns c = λ q.
+    let ds = c.args.definitions.now in
+    let end : c.loop-at.at ≡ length ds = omega arith in
+    c.loop-at.invariant q ∙ none_raised ds c.loop-at.at q end
