@@ -21,7 +21,7 @@ use Rattle.ic_machine.proofs.NumberLemmas.{small}
 
 -- what stands behind the last bracket of a text ----
 
-abbrev opens : ℕ → Bool
+abbrev pub opens : ℕ → Bool
 opens c = c == 40
 
 none_opens : (front rest : List ℕ) → list_any opens (front ++ 40 ∷ rest) ≡ true
@@ -31,7 +31,7 @@ none_opens (c ∷ front) rest = elim (cases_Bool (opens c)) [
   | inr f ↦ rw f (none_opens front rest)
 ]
 
-tail_is : (c d : ℕ) (xs ys : List ℕ) → c ∷ xs ≡ d ∷ ys → xs ≡ ys
+pub tail_is : (c d : ℕ) (xs ys : List ℕ) → c ∷ xs ≡ d ∷ ys → xs ≡ ys
 tail_is c d xs ys e = cc
 
 behind_last : (front other a n : List ℕ) → list_any opens a ≡ false → list_any opens n ≡ false → front ++ 40 ∷ a ≡ other ++ 40 ∷ n → a ≡ n
@@ -45,7 +45,7 @@ behind_last (c ∷ front) (d ∷ other) a n x y e = behind_last front other a n 
 digit_apart : (n : ℕ) → n < 10 → list_any opens ((48 + n) ∷ []) ≡ false
 digit_apart = below_ten (λ n. list_any opens ((48 + n) ∷ []) ≡ false) refl refl refl refl refl refl refl refl refl refl
 
-digits_apart : (n : ℕ) → n < 2 ^ 64 → list_any opens (decimal n) ≡ false
+pub digits_apart : (n : ℕ) → n < 2 ^ 64 → list_any opens (decimal n) ≡ false
 digits_apart = decimal_by_steps (λ n ds. list_any opens ds ≡ false) digit_apart (λ n ds more h. none_joined opens ds ((48 + n % 10) ∷ []) h (digit_apart (n % 10) (omega (arith))))
 
 cut_last : (xs ys : List ℕ) (c : ℕ) → xs ++ c ∷ [] ≡ ys ++ c ∷ [] → xs ≡ ys
@@ -66,7 +66,7 @@ cut_last (x ∷ xs) (y ∷ ys) c e =
 
 -- names with a number in brackets ----
 
-suffix_fixed : (n : ℕ) → n < 2 ^ 64 → list_all is_fixed (suffix_of n) ≡ true
+pub suffix_fixed : (n : ℕ) → n < 2 ^ 64 → list_all is_fixed (suffix_of n) ≡ true
 suffix_fixed n x = all_joined is_fixed (codes " (") (decimal n ++ codes ")") refl (all_joined is_fixed (decimal n) (codes ")") (digits_fixed n x) refl)
 
 joined : (front rest : List ℕ) → front ++ 32 ∷ 40 ∷ rest ≡ (front ++ 32 ∷ []) ++ 40 ∷ rest

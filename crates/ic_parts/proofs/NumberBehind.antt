@@ -1,19 +1,21 @@
 -- The number behind a word, or in brackets at the end, in the folding of a name.
-use Rattle.std.proofs.Common.{◌≡◌, ◌≢◌, ℕ, zero, suc, ◌+◌, ◌-◌, ◌<◌, ◌≤◌, ◌^◌, ◌%◌, ◌==◌, List, [], ◌∷◌, ◌++◌, length, get_or, take, drop}
-use Rattle.std.proofs.Common.{Bool, true, false, ◌||◌, Some, Result, encode_utf8_all, append_assoc, refl, sym, ap, ap₂, subst, ◌∙◌, arith}
-use Rattle.std.proofs.lemmas.Fmt.{IsAscii-decimal, decimal_by_steps, first_decimal, parse-decimal}
+use Rattle.std.proofs.Common.{◌≡◌, ◌≢◌, ℕ, zero, suc, ◌-◌, ◌<◌, ◌≤◌, ◌^◌, List, [], ◌∷◌, ◌++◌, length, get_or, take, drop}
+use Rattle.std.proofs.Common.{true, false, Some, Result, encode_utf8_all, append_assoc, refl, sym, ap, ap₂, subst, ◌∙◌, arith}
+use Rattle.std.proofs.lemmas.Bool.{or_parts}
+use Rattle.std.proofs.lemmas.Fmt.{IsAscii-decimal, first_decimal, parse-decimal}
 use Rattle.std.proofs.lemmas.List.{take-append-drop}
 use Rattle.std.proofs.lemmas.Str.{IsUtf8-from_ascii, chars-IsAscii, encode_ascii, encodes-append, encodes-chars}
 use Rattle.std.specs.Fmt.{decimal}
-use Rattle.std.specs.List.{list_all, list_any}
+use Rattle.std.specs.List.{list_any}
 use Rattle.std.specs.Prelude.{codes}
 use Rattle.std.specs.Result.{result_ok}
 use Rattle.std.specs.Str.Parse.{ParsesUnsigned}
-use Rattle.ic_laws.proofs.FoldLaws.{fold-fixed, fold_append, is_fixed}
+use Rattle.ic_laws.proofs.FoldLaws.{fold-fixed, fold_append}
 use Rattle.ic_laws.proofs.binding.SceneLemmas.{agree_from}
 use Rattle.ic_laws.specs.Name.{agrees, fold}
 use Rattle.ic_machine.specs.subjects.Sheets.{copy_name, suffix_of}
-use Rattle.ic_machine.proofs.NewNames.{all_joined, below_ten, digits_fixed, none_joined}
+use Rattle.ic_machine.proofs.CopyNames.{digits_apart, opens, suffix_fixed, tail_is}
+use Rattle.ic_machine.proofs.NewNames.{digits_fixed}
 
 -- ---- digits
 
@@ -45,13 +47,6 @@ behind_word word gone front folded front_is folded_is n small agree =
 
 -- ---- in brackets
 
-abbrev opens : ℕ → Bool
-opens c = c == 40
-
-suffix_fixed : (n : ℕ) → n < 2 ^ 64 → list_all is_fixed (suffix_of n) ≡ true
-suffix_fixed n small =
-    all_joined is_fixed (codes " (") (decimal n ++ codes ")") refl (all_joined is_fixed (decimal n) (codes ")") (digits_fixed n small) refl)
-
 encoded_suffix : (n : ℕ) → n < 2 ^ 64 → encode_utf8_all (suffix_of n) ≡ (32 ∷ 40 ∷ []) ++ (decimal n ++ 41 ∷ [])
 encoded_suffix n small =
     encodes-append (codes " (") (decimal n ++ codes ")")
@@ -78,33 +73,18 @@ in_brackets source gone folded folded_is n small agree =
 
 -- ---- what stands behind the last bracket of a text
 
-digit_apart : (n : ℕ) → n < 10 → list_any opens ((48 + n) ∷ []) ≡ false
-digit_apart = below_ten (λ n. list_any opens ((48 + n) ∷ []) ≡ false) refl refl refl refl refl refl refl refl refl refl
-
-digits_apart : (n : ℕ) → n < 2 ^ 64 → list_any opens (decimal n) ≡ false
-digits_apart =
-    decimal_by_steps (λ n ds. list_any opens ds ≡ false) digit_apart
-    (λ n ds more h. none_joined opens ds ((48 + n % 10) ∷ []) h (digit_apart (n % 10) (omega arith)))
-
 -- none is there
 abbrev HasNoBracket : List ℕ → Type 0
 HasNoBracket xs = (i : ℕ) → i < length xs → get_or xs i 0 ≢ 40
 
-neither : (a b : Bool) → (a || b) ≡ false → (a ≡ false) × (b ≡ false)
-neither true b e = cc
-neither false b e = (refl, e)
-
 none_from : (xs : List ℕ) → list_any opens xs ≡ false → HasNoBracket xs
 none_from [] e i less is = omega (arith, less)
-none_from (x ∷ xs) e zero less is = let no : true ≡ false = sym (ap opens is) ∙ (neither (opens x) (list_any opens xs) e).0 in cc
-none_from (x ∷ xs) e (suc i) less is = none_from xs (neither (opens x) (list_any opens xs) e).1 i (omega (arith, less)) is
+none_from (x ∷ xs) e zero less is = let no : true ≡ false = sym (ap opens is) ∙ (or_parts (opens x) (list_any opens xs) e).0 in cc
+none_from (x ∷ xs) e (suc i) less is = none_from xs (or_parts (opens x) (list_any opens xs) e).1 i (omega (arith, less)) is
 
 one_stands : (front rest : List ℕ) → HasNoBracket (front ++ 40 ∷ rest) → ⊥
 one_stands [] rest none = none 0 (omega arith) refl
 one_stands (c ∷ front) rest none = one_stands front rest (λ i less is. none (suc i) (omega (arith, less)) is)
-
-tail_is : (c d : ℕ) (xs ys : List ℕ) → c ∷ xs ≡ d ∷ ys → xs ≡ ys
-tail_is c d xs ys e = cc
 
 behind_last : (front other a n : List ℕ) → HasNoBracket a → HasNoBracket n → front ++ 40 ∷ a ≡ other ++ 40 ∷ n → a ≡ n
 behind_last [] [] a n x y e = tail_is 40 40 a n e
