@@ -1,5 +1,5 @@
 -- The program's words, its start and its statuses.
-use Rattle.std.proofs.Common.{String, ◌≡◌, ℕ, List, [], ◌∷◌, get_or, Option, Some, None, Result, Ok, Err, IfOk, IfErr, OnOk, bytes_eq, codes, string_bytes, refl, arith, length, take, ◌+◌, ◌==◌, true, false, option_map, sym, subst, ◌∙◌, ap}
+use Rattle.std.proofs.Common.{String, ◌≡◌, ◌⊎◌, inl, inr, ℕ, List, [], ◌∷◌, get_or, Option, Some, None, Result, Ok, Err, IfOk, IfErr, OnOk, bytes_eq, codes, string_bytes, refl, arith, length, take, ◌+◌, ◌==◌, true, false, option_map, sym, subst, ◌∙◌, ap}
 use Rattle.std.proofs.lemmas.Bool.{eqb-true}
 use Rattle.std.specs.Str.{chars}
 use Rattle.std.specs.declared.alloc.Global.{Global}
@@ -51,6 +51,11 @@ on_ok_at_0 (Err run.ReadFault) P h e = absurd (omega (arith, e))
 on_ok_at_0 (Err run.WriteFault) P h e = absurd (omega (arith, e))
 on_ok_at_0 (Err run.TooManyTurns) P h e = absurd (omega (arith, e))
 on_ok_at_0 (Err run.OutOfMemory) P h e = absurd (omega (arith, e))
+
+-- where only memory can run out, it is 0 or 6
+pub completes_so : (r : Result ℕ RunError) (status : ℕ) → status ≡ run_status r → IfErr r (λ e. e ≡ run.OutOfMemory) → (status ≡ 0) ⊎ (status ≡ 6)
+completes_so (Ok n) status is h = inl is
+completes_so (Err e) status is h = inr (is ∙ ap (λ (x : RunError). let r : Result ℕ RunError = Err x in run_status r) h)
 
 pub empty_list : {X : Type 0} (xs : List X) → (length xs == 0) ≡ true → xs ≡ []
 empty_list [] h = refl

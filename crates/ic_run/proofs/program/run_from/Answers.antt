@@ -11,7 +11,7 @@ use Rattle.ic_run.specs.Start.{setting}
 use Rattle.ic_run.specs.Core.{AreCore, IsPlainBook, identity_machine, whole_machine}
 use Rattle.ic_run.specs.Run.{AppendsReplies, LeavesReplies}
 use Rattle.ic_tree.specs.Notations.{notations_of}
-use Rattle.ic_run.proofs.DeskLemmas.{all_taken, leaves_core_told, leaves_whole_told, on_ok_at_0, start_core, start_plain}
+use Rattle.ic_run.proofs.DeskLemmas.{all_taken, completes_so, leaves_core_told, leaves_whole_told, on_ok_at_0, start_core, start_plain}
 use Rattle.ic_run.proofs.LeftLemmas.{some_moment}
 use Rattle.ic_run.proofs.program.run_from.Goals as goal
 
@@ -60,3 +60,6 @@ returns-in-Ok-clause-stopped_whole g c e stopped =
     let book = c.in-Ok.model.book in
     leaves_whole_told c.run-answer.result e book c.run-answer.new.model.book (λ created. start_book (setting c.args.first.now) created c.args.tables.now) book.metadata.created (left c.args.source.now) (left c.run-answer.new.source)
     (written c.args.sink.now) (written c.run-answer.new.sink) c.in-Ok.ensures.start (sym c.status_of.ensures ∙ stopped) c.run-answer.ensures.front
+
+pub returns-in-Ok-clause-completes : goal.returns-in-Ok-clause-completes
+returns-in-Ok-clause-completes g c = λ none few read write. completes_so c.run-answer.result c.status_of.result c.status_of.ensures (c.run-answer.ensures.completes few read write)

@@ -3,7 +3,7 @@ use Rattle.ic_lines.specs.Bytes.{IfTold}
 use Rattle.ic_parts.specs.Book.{Book}
 use Rattle.ic_run.specs.Desk.{start_book}
 use Rattle.ic_run.specs.Start.{setting}
-use Rattle.ic_run.proofs.DeskLemmas.{at_error_status, on_ok_at_0}
+use Rattle.ic_run.proofs.DeskLemmas.{at_error_status, completes_so, on_ok_at_0}
 use Rattle.ic_run.proofs.RunLemmas.{told_of_ok}
 use Rattle.ic_share.specs.Share.{AppendsShared, LeavesShared, SharesAll}
 use Rattle.ic_share.proofs.SharedRuns.{leaves_from, some_moment}
@@ -37,3 +37,6 @@ returns-in-Ok-clause-stopped g c e stopped =
     c.in-Ok.ensures.start
     (at_error_status c.share-answer.result e (λ x. IfTold (left c.args.source.now) (left c.share-answer.new.source) (λ bytes rest. LeavesShared x book new bytes rest (written c.args.sink.now) (written c.share-answer.new.sink)))
     (sym c.status_of.ensures ∙ stopped) c.share-answer.ensures.front)
+
+pub returns-in-Ok-clause-completes : goal.returns-in-Ok-clause-completes
+returns-in-Ok-clause-completes g c = λ none few read write. completes_so c.share-answer.result c.status_of.result c.status_of.ensures (c.share-answer.ensures.completes few read write)
