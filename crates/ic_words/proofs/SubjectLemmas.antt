@@ -1,5 +1,5 @@
 -- The table of all commands, and the rows that each subject has in it.
-use Rattle.std.proofs.Common.{◌≡◌, ◌≢◌, ℕ, List, [], ◌∷◌, ◌++◌, map, Bool, true, false, ◌&&◌, ◌||◌, Option, Some, None, IsUtf8, bytes_eq, chars, codes, option_map, option_and_then, refl, rules, ap, sym, ◌∙◌, inl, inr}
+use Rattle.std.proofs.Common.{◌≡◌, ◌≢◌, ℕ, List, [], ◌∷◌, ◌++◌, map, Bool, true, false, ◌&&◌, ◌||◌, Option, Some, None, IsUtf8, bytes_eq, chars, codes, option_map, option_and_then, IfNone, refl, rules, ap, subst, sym, ◌∙◌, inl, inr}
 use Rattle.std.specs.List.{AllByRecursion, find, list_all}
 use Rattle.std.proofs.lemmas.Bool.{and_parts, cases_Bool, false_from_ne_true}
 use Rattle.std.proofs.lemmas.Slice.Eq.{bytes_eq-Decides}
@@ -214,10 +214,10 @@ arrays_first = record { each = search rules }
 pub record Lacks {D : Type 0} (rows : List (Row D)) (name : List ℕ) (words : List (List ℕ)) : Type 0 where
   pub none : named [] rows name words ≡ None
 
--- so does one that answers nothing
-pub lacks : {C D : Type 0} {rows : List (Row D)} {name : List ℕ} {words : List (List ℕ)} (meant : C → D) {made : Option (Option C)}
-    → made ≡ None → option_map (option_map meant) made ≡ named [] rows name words → Lacks rows name words
-lacks meant none is = record { none = sym is ∙ ap (option_map (option_map meant)) none }
+-- so does one of which nothing is made
+pub lacks : {C D : Type 0} {rows : List (Row D)} {name : List ℕ} {words : List (List ℕ)} {made : Option (Option C)}
+    → made ≡ None → IfNone made (named [] rows name words ≡ None) → Lacks rows name words
+lacks {rows = rows} {name} {words} none is = record { none = subst (λ made. IfNone made (named [] rows name words ≡ None)) none is }
 
 module _ (name : List ℕ) (words : List (List ℕ)) where
   by_row : {D : Type 0} (subject : D → laws.Command) (row : Row D) → IsFirst subject row → bytes_eq row.name name ≡ true

@@ -14,23 +14,28 @@ pub mod notation;
 pub mod reading;
 pub mod sheets;
 pub mod styles;
+mod subject;
 pub mod tabs;
 pub mod writing;
 
 use crate::words::first_word;
-use arrays::{Arrays, arrays_in, spill_put, value_put};
-use definitions::{Definitions, definitions_in};
-use extending::{Extending, extending_in};
+use arrays::{Arrays, spill_put, value_put};
+use definitions::Definitions;
+use extending::Extending;
 use ic_laws::OutOfMemory;
 use ic_tables::Language;
-use layout::{Layout, layout_in};
-use notation::{Notation, notation_in};
-use reading::{Reading, reading_in};
-use sheets::{Sheets, sheets_in};
+use layout::Layout;
+use notation::Notation;
+use reading::Reading;
+use sheets::Sheets;
 use std::alloc::Global;
-use styles::{Styles, styles_in};
-use tabs::{Tabs, tabs_in};
-use writing::{Writing, writing_in};
+use styles::Styles;
+use subject::{
+    in_arrays, in_definitions, in_extending, in_layout, in_notation, in_reading, in_sheets,
+    in_styles, in_tabs, in_writing, likely,
+};
+use tabs::Tabs;
+use writing::Writing;
 
 /// A command, by its subject. Sheets are told by their index from 0 in the order of the book, or by name or id; rows and
 /// columns count from 1. The scope of a definition is the index of a sheet, or None where it is the whole book.
@@ -89,8 +94,7 @@ fn command_named<'l>(
     }
 }
 
-/// The command of this name, where its words aren't values: that of the one subject that has the name. A subject compares
-/// the name with each of its own, so those that most lines are of come first.
+/// The command of this name, where its words aren't values: that of the one subject that has the name.
 fn plain_command<'l>(
     alloc: Global,
     name: &str,
@@ -101,65 +105,52 @@ fn plain_command<'l>(
         ≡ joined (named [] commands name.now (words_left rest.entry))) }
     ensures memory { OnErr result (HaveEscape (words_left rest.entry)) }
 {
-    if let Some(writing) = writing_in(alloc, name, rest)? {
-        return match writing {
-            Some(command) => Ok(Some(Command::Writing(command))),
-            None => Ok(None),
-        };
+    if let Some(command) = likely(alloc, name, rest)? {
+        return Ok(command);
     }
-    if let Some(reading) = reading_in(alloc, name, rest)? {
-        return match reading {
-            Some(command) => Ok(Some(Command::Reading(command))),
-            None => Ok(None),
-        };
+    searched(alloc, name, rest)
+}
+
+/// The same, where each subject is asked, one after another.
+fn searched<'l>(
+    alloc: Global,
+    name: &str,
+    rest: Option<&'l str>,
+) -> Result<Option<Command<'l>>, OutOfMemory>
+    ensures exact { copies_values name.now ≡ false → IfOk result
+        (λ command. option_map command_meant command
+        ≡ joined (named [] commands name.now (words_left rest.entry))) }
+    ensures memory { OnErr result (HaveEscape (words_left rest.entry)) }
+{
+    if let Some(command) = in_writing(alloc, name, rest)? {
+        return Ok(command);
     }
-    if let Some(arrays) = arrays_in(alloc, name, rest)? {
-        return match arrays {
-            Some(command) => Ok(Some(Command::Arrays(command))),
-            None => Ok(None),
-        };
+    if let Some(command) = in_reading(alloc, name, rest)? {
+        return Ok(command);
     }
-    if let Some(definitions) = definitions_in(alloc, name, rest)? {
-        return match definitions {
-            Some(command) => Ok(Some(Command::Definitions(command))),
-            None => Ok(None),
-        };
+    if let Some(command) = in_arrays(alloc, name, rest)? {
+        return Ok(command);
     }
-    if let Some(extending) = extending_in(alloc, name, rest)? {
-        return match extending {
-            Some(command) => Ok(Some(Command::Extending(command))),
-            None => Ok(None),
-        };
+    if let Some(command) = in_definitions(alloc, name, rest)? {
+        return Ok(command);
     }
-    if let Some(styles) = styles_in(alloc, name, rest)? {
-        return match styles {
-            Some(command) => Ok(Some(Command::Styles(command))),
-            None => Ok(None),
-        };
+    if let Some(command) = in_extending(alloc, name, rest)? {
+        return Ok(command);
     }
-    if let Some(layout) = layout_in(alloc, name, rest)? {
-        return match layout {
-            Some(command) => Ok(Some(Command::Layout(command))),
-            None => Ok(None),
-        };
+    if let Some(command) = in_styles(alloc, name, rest)? {
+        return Ok(command);
     }
-    if let Some(sheets) = sheets_in(alloc, name, rest)? {
-        return match sheets {
-            Some(command) => Ok(Some(Command::Sheets(command))),
-            None => Ok(None),
-        };
+    if let Some(command) = in_layout(alloc, name, rest)? {
+        return Ok(command);
     }
-    if let Some(tabs) = tabs_in(alloc, name, rest)? {
-        return match tabs {
-            Some(command) => Ok(Some(Command::Tabs(command))),
-            None => Ok(None),
-        };
+    if let Some(command) = in_sheets(alloc, name, rest)? {
+        return Ok(command);
     }
-    if let Some(notation) = notation_in(alloc, name, rest)? {
-        return match notation {
-            Some(command) => Ok(Some(Command::Notation(command))),
-            None => Ok(None),
-        };
+    if let Some(command) = in_tabs(alloc, name, rest)? {
+        return Ok(command);
+    }
+    if let Some(command) = in_notation(alloc, name, rest)? {
+        return Ok(command);
     }
     Ok(None)
 }
