@@ -1,19 +1,20 @@
 -- A number is taken apart from left to right, and what is too large is counted as one number.
-use Rattle.std.proofs.Common.{◌≡◌, ℕ, ◌+◌, ◌*◌, ◌-◌, ◌^◌, ◌<◌, ◌≤◌, List, [], ◌∷◌, Bool, true, false, not, ◌&&◌, ◌||◌, ◌==◌, cond, min, nat_le, nat_lt, length, chars, None, refl, sym, ap, ◌∙◌, inl, inr, arith}
+use Rattle.std.proofs.Common.{◌≡◌, ℕ, ◌+◌, ◌*◌, ◌-◌, ◌^◌, ◌<◌, ◌≤◌, List, [], ◌∷◌, Bool, true, false, not, ◌&&◌, ◌||◌, ◌==◌, cond, min, nat_le, nat_lt, bytes_eq, length, chars, None, refl, sym, ap, ◌∙◌, inl, inr, arith}
 use Rattle.std.specs.Str.{all_ascii_digits}
 use Rattle.std.specs.Str.Parse.{digits_value, digits_value_after}
-use Rattle.std.proofs.lemmas.Bool.{cases_Bool, and_right}
+use Rattle.std.proofs.lemmas.Bool.{cases_Bool, and_right, or_from, or_parts}
 use Rattle.std.proofs.Math.Nat.{mul-le-mul, pow-le-pow_right}
 use Rattle.std.proofs.lemmas.Bool.Decides.{leb_tells, nat_tests}
 use Rattle.std.proofs.lemmas.Str.Parse.{digits_value_short}
-use Rattle.ic_laws.specs.Scan.{is_digit, past_run, run_of}
+use Rattle.ic_laws.specs.Character.{dollar}
+use Rattle.ic_laws.specs.Scan.{first_is, is_digit, past_run, run_of}
 use Rattle.ic_laws.proofs.AmountLemmas.{numerals}
 use Rattle.ic_tables.specs.declared.locale.Locale.{Locale}
-use Rattle.ic_input.specs.Convention.{group_of, is_currency, is_nothing}
+use Rattle.ic_input.specs.Convention.{begins_currency, euro, group_of, is_currency, is_nothing}
 use Rattle.ic_tables.specs.Formats.{decimal_separator}
 use Rattle.ic_input.specs.Code.{is_percent, stands_beside}
 use Rattle.ic_input.specs.Group.{past_threes, threes}
-use Rattle.ic_input.specs.Number.{decimals_at, from_digits, is_first_group, most_decimals, past_decimals, stands_before, units_if, unsigned_number, with_after, with_code, code_for}
+use Rattle.ic_input.specs.Number.{decimals_at, begins_digits, from_digits, is_first_group, may_begin, most_decimals, past_decimals, stands_before, units_if, unsigned_number, with_after, with_code, code_for}
 use Rattle.ic_input.specs.declared.digits.Digits.{Digits}
 use Rattle.ic_input.specs.declared.digits.Groups.{Groups}
 use Rattle.ic_input.proofs.DigitLemmas.{capped, within-is}
@@ -88,6 +89,33 @@ assembled l before body some v k f kf after grouped es ev ek ef ekf ea =
 pub from_start : (l : Locale) (text before body : List ℕ) (d : ℕ) → d ≡ decimal_separator l → before ≡ run_of (stands_before d) text → body ≡ past_run (stands_before d) text → from_digits l before body ≡ unsigned_number l text
 unfolding unsigned_number
 from_start l text before body d e b r = rw (b, r, e) refl
+
+-- where no currency stands before digits, but something, it is no number
+no_currency : (l : Locale) (c : ℕ) (before body : List ℕ) → is_currency l (c ∷ before) ≡ false → None ≡ from_digits l (c ∷ before) body
+unfolding from_digits
+no_currency l c before body e =
+    let apart = and_right (is_nothing (past_decimals (decimal_separator l) (rest_in l body))) (is_currency l (c ∷ before)) e in
+    elim (cases_Bool (is_first_group (first_in body) (groups_in l body))) [ inl t ↦ rw (t, apart) refl | inr f ↦ rw f refl ]
+
+-- a text that begins with no character of a currency is none
+unlike_symbol : (symbol : List ℕ) (c : ℕ) (cs : List ℕ) → first_is (λ d. d == c) symbol ≡ false → bytes_eq symbol (c ∷ cs) ≡ false
+unlike_symbol [] c cs e = refl
+unlike_symbol (d ∷ ds) c cs e = rw e refl
+
+unlike_currency : (l : Locale) (c : ℕ) (cs : List ℕ) → begins_currency l c ≡ false → is_currency l (c ∷ cs) ≡ false
+unlike_currency l c cs e =
+    let p = or_parts (c == dollar || c == euro) (first_is (λ d. d == c) l.currency.symbol) e in
+    or_from ((c == dollar || c == euro) && is_nothing cs) (bytes_eq l.currency.symbol (c ∷ cs)) (ap (λ b. b && is_nothing cs) p.0) (unlike_symbol l.currency.symbol c cs p.1)
+
+-- a text that begins as no number may is none
+pub unbegun : (l : Locale) (text : List ℕ) → first_is (may_begin l) text ≡ false → None ≡ unsigned_number l text
+unfolding unsigned_number from_digits
+unbegun l [] e = refl
+unbegun l (c ∷ cs) e =
+    let p = or_parts (begins_digits (decimal_separator l) c) (begins_currency l c) e in
+    let other : stands_before (decimal_separator l) c ≡ true = ap not p.0 in
+    let before = run_of (stands_before (decimal_separator l)) cs in
+    rw other (no_currency l c before (past_run (stands_before (decimal_separator l)) cs) (unlike_currency l c before p.1))
 
 -- What the groups are of which the code tells.
 pub record AreGroups (l : Locale) (body : List ℕ) (groups : Groups) : Type 0 where

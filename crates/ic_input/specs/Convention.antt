@@ -1,6 +1,7 @@
 -- What of a locale tells how numbers and dates are typed and shown there.
 use Rattle.std.specs.Prelude.{ℕ, List, [], ◌∷◌, Bool, true, false, ◌&&◌, ◌||◌, ◌==◌, bytes_eq}
 use Rattle.ic_laws.specs.Character.{blank, dollar, minus}
+use Rattle.ic_laws.specs.Scan.{first_is}
 use Rattle.ic_tables.specs.declared.locale.Locale.{Locale}
 
 abbrev pub first_or : ℕ → List ℕ → ℕ
@@ -39,6 +40,10 @@ is_dollar_or_euro (c ∷ cs) = (c == dollar || c == euro) && is_nothing cs
 -- the symbols that are read beside a number: the dollar, the euro and the locale's own
 abbrev pub is_currency : Locale → List ℕ → Bool
 is_currency l symbol = is_dollar_or_euro symbol || bytes_eq l.currency.symbol symbol
+
+-- one of them begins with this character
+abbrev pub begins_currency : Locale → ℕ → Bool
+begins_currency l c = c == dollar || c == euro || first_is (λ d. d == c) l.currency.symbol
 
 -- the code of the locale's short dates
 abbrev pub short_date : Locale → List ℕ

@@ -6,7 +6,7 @@ use Rattle.std.specs.Str.Parse.{digits_value, digits_value_after}
 use Rattle.ic_laws.specs.Scan.{is_digit, past_run, run_of}
 use Rattle.ic_tables.specs.declared.locale.Locale.{Locale}
 use Rattle.ic_input.specs.Code.{CodeParts, is_percent, stands_beside}
-use Rattle.ic_input.specs.Convention.{group_of, is_currency, is_nothing}
+use Rattle.ic_input.specs.Convention.{begins_currency, group_of, is_currency, is_nothing}
 use Rattle.ic_tables.specs.Formats.{decimal_separator}
 use Rattle.ic_input.specs.declared.number.Number.{Number}
 use Rattle.ic_input.specs.Group.{in_threes, past_threes, threes}
@@ -68,6 +68,10 @@ begins_digits separator c = is_digit c || c == separator
 
 abbrev pub stands_before : ℕ → ℕ → Bool
 stands_before separator c = not (begins_digits separator c)
+
+-- a character that a number may begin with: one that its digits may, or the first one of a currency
+abbrev pub may_begin : Locale → ℕ → Bool
+may_begin l c = begins_digits (decimal_separator l) c || begins_currency l c
 
 -- the digits after a separator at the front, and what stands after them
 abbrev pub decimals_at : ℕ → List ℕ → List ℕ

@@ -1,16 +1,16 @@
 //! Numbers as they are typed, without their sign.
 ghost use Rattle.std.specs.Prelude.{◌≡◌, ◌<◌, ◌≤◌, ◌+◌, ◌^◌, ◌&&◌, ◌||◌, not, nat_le, nat_lt, min, pos, chars, length, option_map, true};
 ghost use Rattle.std.specs.Str.Parse.{digits_value};
-ghost use Rattle.ic_laws.specs.Scan.{past_run};
+ghost use Rattle.ic_laws.specs.Scan.{first_is, past_run};
 ghost use Rattle.ic_input.specs.Code.{stands_beside};
-ghost use Rattle.ic_input.specs.Convention.{is_currency};
-ghost use Rattle.ic_input.specs.Number.{code_for, decimals_at, from_digits, most_decimals, past_decimals, stands_before, units_if, unsigned_number, with_after};
+ghost use Rattle.ic_input.specs.Convention.{begins_currency, is_currency};
+ghost use Rattle.ic_input.specs.Number.{code_for, decimals_at, from_digits, may_begin, most_decimals, past_decimals, stands_before, units_if, unsigned_number, with_after};
 
 use crate::code::{NumberCode, is_percent};
 use crate::convention::{group_of, is_currency, is_nothing};
 use crate::digits::{Digits, Groups, digits_at, groups_at};
 use ic_laws::Amount;
-use ic_laws::scan::{first_char, front_of};
+use ic_laws::scan::{begins_with, first_char, front_of};
 use ic_tables::Locale;
 
 /// A number, and the parts of the code that shows it as it was typed, if it needs one.
@@ -25,8 +25,28 @@ pub(crate) struct Number<'t> {
 pub(crate) fn unsigned_number<'t>(text: &'t str, locale: &Locale) -> Option<Number<'t>>
     ensures value { result ≡ unsigned_number locale.now (chars text.entry.now) }
 {
+    if !may_begin(text, locale) {
+        return None;
+    }
     let body = past_other(text, locale.decimal_separator());
     from_digits(front_of(text, body), body, locale)
+}
+
+// Whether a number may begin as a text does. Most texts that are none are told by this.
+fn may_begin(text: &str, locale: &Locale) -> bool
+    ensures { result ≡ first_is (may_begin locale.now) (chars text.now) }
+{
+    let Some((c, _)) = first_char(text) else {
+        return false;
+    };
+    c.is_ascii_digit() || c == locale.decimal_separator() || begins_currency(c, locale)
+}
+
+// Whether a currency begins with a character.
+fn begins_currency(c: char, locale: &Locale) -> bool
+    ensures { result ≡ begins_currency locale.now c }
+{
+    c == '$' || c == '€' || begins_with(locale.currency.symbol.as_str(), c)
 }
 
 // What stands after the characters that no digits begin with. ASCII characters are told by their bytes.
