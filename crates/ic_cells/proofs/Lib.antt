@@ -1,4 +1,5 @@
 mod CellExamples
+mod ColumnLemmas
 mod IndexLemmas
 mod Literals
 mod MapLemmas

@@ -1,9 +1,10 @@
 //! Ordered maps that contracts see as finite maps, so that a record which holds one is plain data.
-ghost use Rattle.std.specs.Prelude.{◌≡◌, None, option_copied, IfOk, OnErr, OnOk};
+ghost use Rattle.std.specs.Prelude.{◌≡◌, None, false, option_copied, IfOk, OnErr, OnOk};
 ghost use Rattle.std.specs.Borrow.{LendsIf, sem};
 ghost use Rattle.std.specs.Option.{option_copied_mut};
 ghost use Rattle.std.specs.FinMap as map;
 ghost use Rattle.ic_cells.specs.Made.{PutsMade};
+ghost use Rattle.ic_cells.specs.Maps.{HasNoneBetween, column_mark};
 ghost use Rattle.ic_cells.specs.contracts.maps.PlaceMap.{the_row};
 
 use ic_laws::OutOfMemory;
@@ -27,23 +28,34 @@ pub trait Maker<X, T> {
         ensures err { OnErr result (self.new ≡ self.old) };
 }
 
-/// A map from places, each a row and a column from 1, by row and then by column. Contracts see the finite map.
+/// The bit that marks a column, by its number modulo 64.
+fn mark_of(column: i32) -> u64
+    ensures { result ≡ column_mark column }
+{
+    1 << column.rem_euclid(64)
+}
+
+/// A map from places, each a row and a column from 1, by row and then by column. Contracts see the finite map. Beside it
+/// are marks of the columns in which something was ever put, so that it is told at once that nothing stands in a column.
 #[derive(Drop)]
 pub struct PlaceMap<T> {
     alloc: Global,
     inner: BTreeMap<(i32, i32), T>,
+    marks: u64,
 }
 
 impl<T> Model for PlaceMap<T> {
     ghost use Rattle.std.specs.Coded.{coded×, coded_ℤ};
     ghost use Rattle.std.specs.FinMap as map;
-    ghost use Rattle.ic_cells.specs.Maps.{place_cmp};
+    ghost use Rattle.ic_cells.specs.Maps.{AreMarked, place_cmp};
 
     ghost Value = { map.FinMap place_cmp T };
 
     ghost coded = { map.code (coded× coded_ℤ coded_ℤ) T.code };
 
     ghost view = { λ m. map.from_entries m.inner.entries };
+
+    ghost invariant = { λ m. AreMarked m.marks (map.from_entries m.inner.entries) };
 }
 
 impl<T: Drop> PlaceMap<T> {
@@ -54,6 +66,7 @@ impl<T: Drop> PlaceMap<T> {
         PlaceMap {
             alloc,
             inner: BTreeMap::new(alloc),
+            marks: 0,
         }
     }
 
@@ -61,7 +74,11 @@ impl<T: Drop> PlaceMap<T> {
     pub fn of_map(alloc: Global, inner: BTreeMap<(i32, i32), T>) -> PlaceMap<T>
         ensures { result ≡ map.from_entries inner.entries }
     {
-        PlaceMap { alloc, inner }
+        PlaceMap {
+            alloc,
+            inner,
+            marks: u64::MAX,
+        }
     }
 
     /// Where its memory comes from.
@@ -109,6 +126,7 @@ impl<T: Drop> PlaceMap<T> {
         ensures err { OnErr result (self.new ≡ self.old) }
         ensures absent { OnErr result (map.get self.old (row, column) ≡ None) }
     {
+        self.marks |= mark_of(column);
         Ok(self.inner.insert((row, column), item)?)
     }
 
@@ -128,6 +146,7 @@ impl<T: Drop> PlaceMap<T> {
         ensures err { OnErr result (self.new ≡ self.old) }
         ensures kept { OnErr result (maker.new ≡ maker.old) }
     {
+        self.marks |= mark_of(column);
         let Entry::Vacant(free) = self.inner.entry((row, column))? else {
             return Ok(Some(given));
         };
@@ -142,6 +161,22 @@ impl<T: Drop> PlaceMap<T> {
         ensures removed { self.new ≡ map.remove self.old (row, column) }
     {
         self.inner.remove(&(row, column))
+    }
+
+    /// Whether something may stand in the columns from `from` up to before `to`. It is false only where nothing does; columns
+    /// are told apart by their numbers modulo 64 alone.
+    pub fn may_stand_in(&self, from: i32, to: i32) -> bool
+        ensures { result ≡ false → HasNoneBetween self.now from to }
+    {
+        if to.saturating_sub(from) >= 64 {
+            return true;
+        }
+        for column in from..to {
+            if self.marks & mark_of(column) != 0 {
+                return true;
+            }
+        }
+        false
     }
 
     /// All of it, in its order.

@@ -15,7 +15,7 @@ use Rattle.std.specs.Prelude.{int_le, int_lt, ◌+ℤ◌, ◌≤ℤ◌, ◌<ℤ�
 use Rattle.std.specs.Ordering.{is_eq, is_gt, ordering_then}
 use Rattle.std.specs.declared.cmp.Ordering.{Ordering}
 use Rattle.std.specs.declared.cmp.Ordering.TheVariants.{Less, Equal, Greater}
-use Rattle.ic_cells.specs.Maps.{place_cmp}
+use Rattle.ic_cells.specs.Maps.{HasNoneBetween, place_cmp}
 use Rattle.ic_cells.specs.declared.cell.Cell.{Cell}
 use Rattle.ic_grid.specs.Block.{Place, is_between, is_in_block, is_in_span}
 use Rattle.ic_grid.specs.Contents.{Contents}
@@ -221,6 +221,13 @@ module _ (test : Place → Bool) (b : Block) (from : Place) where
     passed_more p f top next is q left before =
         by_side (is_from at q)
         (λ t. f.first q (onward q left t) (skipped b p f.out (omega (arith, ints, from_row at p f.behind, top)) f.above next is q (inside q left) before)) (passed q left)
+
+-- in a block in whose columns nothing stands, a walk stops nowhere
+pub none_in_columns : (m : Contents Cell) (w : Wanted) (b : Block) (from : Place) → HasNoneBetween m b.column (b.column +ℤ b.width)
+    → NonePasses (wanted_at w b (finite.get m)) b from
+none_in_columns m w b from none q left =
+    let i = in_block b q (inside (λ _. true) b from q left) in
+    ap (λ o. unwrap_or (option_map (is_wanted w b q) o) false) (none q i.left i.right)
 
 -- the first cell of all
 module _ (m : Contents Cell) (b : Block) (from : Place) where

@@ -154,7 +154,9 @@ fn look_in(cells: &PlaceMap<Cell>, block: &Block, from: (i32, i32), wanted: Want
 }
 
 /// The first place of a block from one on, by rows, with a cell at which a walk stops. Where no cell stands in a row of the
-/// sheet, the row costs nothing; where few stand beside the block, a step for each.
+/// sheet, the row costs nothing; where few stand beside the block, a step for each. Where nothing may stand in the columns of
+/// the block, the rows aren't looked at; this is asked in its first two rows alone, since a walk comes further only behind a
+/// cell of the block.
 fn next_wanted(
     cells: &PlaceMap<Cell>,
     block: &Block,
@@ -169,6 +171,9 @@ fn next_wanted(
     ensures none { IfNone result
         (NonePasses (wanted_at wanted block.now (finite.get cells.now)) block.now from) }
 {
+    if from.0 <= block.row + 1 && !cells.may_stand_in(block.column, block.column + block.width) {
+        return None;
+    }
     let last_row = block.row + block.height;
     let mut at = from;
     for turn in block.row..last_row {

@@ -1,11 +1,24 @@
-use Rattle.std.proofs.Common.{arith}
+use Rattle.std.proofs.Common.{◌+ℤ◌, SFits, w32, arith, rules}
 use Rattle.std.proofs.lemmas.Bool.{and_parts, both_ways}
 use Rattle.std.proofs.lemmas.Int.{ints}
 use Rattle.std.specs.FinMap as finite
 use Rattle.ic_grid.proofs.BlockLemmas.{area_bounds}
-use Rattle.ic_grid.proofs.WalkLemmas.{done, found, from_far, from_itself, next_column, next_from, next_row, none_left, passed_more}
+use Rattle.ic_grid.proofs.WalkLemmas.{done, found, from_far, from_itself, next_column, next_from, next_row, none_in_columns, none_left, passed_more}
 use Rattle.ic_grid.specs.Walk.{wanted_at}
 use Rattle.ic_grid.proofs.walk.next_wanted.Goals as goal
+
+pub overflow_add-block : goal.overflow_add-block
+overflow_add-block c = let b = area_bounds c.args.block.now c.requires.area in omega (arith, ints, b.last_row, b.row)
+
+pub overflow_add-block-then-from-block : goal.overflow_add-block-then-from-block
+overflow_add-block-then-from-block c = let b = area_bounds c.args.block.now c.requires.area in omega (arith, ints, b.last_column, b.column)
+
+pub returns-then-not-may_stand_in-clause-none : goal.returns-then-not-may_stand_in-clause-none
+returns-then-not-may_stand_in-clause-none c =
+    let b = area_bounds c.args.block.now c.requires.area in
+    let clear = c.may_stand_in.ensures (search rules) in
+    let fits : SFits w32 (c.args.block.now.column +ℤ c.args.block.now.width) = omega (arith, ints, b.last_column, b.column) in
+    none_in_columns c.args.cells.now c.args.wanted c.args.block.now c.args.from (λ p above below. clear p (search rules) (search rules))
 
 pub overflow_add-last_row : goal.overflow_add-last_row
 overflow_add-last_row c = let b = area_bounds c.args.block.now c.requires.area in omega (arith, ints)
