@@ -39,8 +39,8 @@ use Rattle.ic_laws.specs.declared.tree.Tree.TheOpen as one
 use Rattle.ic_tree.proofs.NotationLaws.{notations_are}
 use Rattle.ic_pool.proofs.ChangeLemmas.{untouched_stays}
 use Rattle.ic_pool.specs.Mentions.{is_dangling, is_dangling_word}
-use Rattle.ic_machine.proofs.BindsLemmas.{core_left, deleted_is_not_meant}
-use Rattle.ic_machine.proofs.CoreValid.{core_valid}
+use Rattle.ic_machine.proofs.bound.BindsLemmas.{core_left, deleted_is_not_meant}
+use Rattle.ic_machine.proofs.as_core.CoreValid.{core_valid}
 use Rattle.ic_machine.specs.Book.{Book, Entry, Sheet, core_entry, core_of, core_sheet, notations_in}
 use Rattle.ic_machine.specs.Command.{OnSheets}
 use Rattle.ic_machine.specs.Content.{formula_in, formula_index}

@@ -4,7 +4,7 @@ use Rattle.ic_laws.specs.Lines.{texts_of}
 use Rattle.ic_tables.specs.Tables.{TableSet}
 use Rattle.ic_cells.specs.declared.workbook.Metadata.{Metadata}
 use Rattle.ic_machine.specs.Book.{Book}
-use Rattle.ic_machine.proofs.MetadataFree.{with_metadata}
+use Rattle.ic_machine.proofs.same.MetadataFree.{with_metadata}
 use Rattle.ic_parts.specs.Book as held
 use Rattle.ic_parts.specs.Book.{metadata_made}
 use Rattle.ic_parts.specs.Whole.{whole_of}

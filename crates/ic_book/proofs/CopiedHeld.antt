@@ -14,11 +14,9 @@ use Rattle.ic_laws.specs.declared.scene.SheetName.{SheetName}
 use Rattle.ic_laws.specs.declared.tree.Formula.{Formula}
 use Rattle.ic_definitions.specs.Named.{definitions_scene, scopes_of}
 use Rattle.ic_keep.specs.Copy.{copied_for}
-use Rattle.ic_machine.proofs.CoreLemmas.{insert-map}
 use Rattle.ic_machine.specs.Book as machine
 use Rattle.ic_machine.specs.Book.{core_sheet}
 use Rattle.ic_machine.specs.subjects.Sheets.{copy_id, copy_named, definitions_moved, formula_copied, name_of_copy, scene_with_copy, with_formula}
-use Rattle.ic_sheets.proofs.InsertLemmas.{inserted_seen}
 use Rattle.ic_sheets.specs.Rewriting.{changed_pool, sheets_of}
 use Rattle.ic_sheets.specs.Sheet.{Sheet, empty_grid, plain_tab, sheet_of}
 use Rattle.ic_sheets.specs.declared.sheet.Sheet.{Sheet as HeldSheet}
@@ -33,6 +31,7 @@ use Rattle.ic_parts.proofs.HeldLemmas.{fresh_is, seen_ids, seen_names}
 use Rattle.ic_parts.proofs.ModelLemmas.{scene_is}
 use Rattle.ic_parts.proofs.WholeLemmas.{whole_core}
 use Rattle.ic_changes.proofs.CopiedHeld.{copied_book, naming_is, new_name, unused}
+use Rattle.ic_laws.proofs.General.{insert-map, insert-map as inserted_seen}
 
 -- what a model keeps ----
 

@@ -10,7 +10,7 @@ use Rattle.ic_tables.specs.declared.locale.NamedLocale.{NamedLocale}
 use Rattle.ic_cells.specs.declared.sheet.Worksheet.{Worksheet}
 use Rattle.ic_cells.specs.declared.workbook.Workbook.{Workbook}
 use Rattle.ic_grid.specs.Contents.{Contents}
-use Rattle.ic_machine.proofs.AlikeGrid.{get-seen, stands_seen}
+use Rattle.ic_machine.proofs.contents.AlikeGrid.{get-seen, stands_seen}
 use Rattle.ic_machine.specs.Book as machine
 use Rattle.ic_machine.specs.Content.{Content}
 use Rattle.ic_machine.specs.Valid as valid

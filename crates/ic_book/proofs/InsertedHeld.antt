@@ -12,8 +12,8 @@ use Rattle.ic_laws.specs.CoreBook.{CoreBook, Definition, has_sheet, ids_of, scen
 use Rattle.ic_laws.specs.Name.{agrees}
 use Rattle.ic_laws.specs.Notations.{Notations}
 use Rattle.ic_definitions.specs.Named.{definitions_scene}
-use Rattle.ic_machine.proofs.InsertedBinds.{insert_naming}
-use Rattle.ic_machine.proofs.InsertedStays.{none_holds}
+use Rattle.ic_machine.proofs.bound.InsertedBinds.{insert_naming}
+use Rattle.ic_machine.proofs.valid.InsertedStays.{none_holds}
 use Rattle.ic_machine.specs.Binds.{with_sheet_among}
 use Rattle.ic_machine.specs.Book as machine
 use Rattle.ic_machine.specs.Kept.{is_given_id}

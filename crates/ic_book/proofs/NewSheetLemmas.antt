@@ -9,8 +9,8 @@ use Rattle.ic_laws.specs.CoreBook as core_book
 use Rattle.ic_laws.specs.CoreBook.{fresh_id, has_sheet, names_of}
 use Rattle.ic_laws.specs.CoreStep.{add_sheet_refusal}
 use Rattle.ic_laws.specs.Name.{agrees, is_sheet_name}
-use Rattle.ic_machine.proofs.NewNames.{base_good, free_of, numbered_good, numbers_apart}
-use Rattle.ic_machine.proofs.NumberLemmas.{small}
+use Rattle.ic_machine.proofs.bound.NewNames.{base_good, free_of, numbered_good, numbers_apart}
+use Rattle.ic_machine.proofs.bound.NumberLemmas.{small}
 use Rattle.ic_machine.specs.Book as machine
 use Rattle.ic_machine.specs.Book.{Stepped, core_sheet, unless}
 use Rattle.ic_machine.specs.Changed as changed

@@ -9,7 +9,7 @@ use Rattle.ic_cells.specs.declared.cell.Cell.TheVariants as cells
 use Rattle.ic_cells.specs.declared.style.Style.{Style}
 use Rattle.ic_grid.proofs.ContentsLemmas.{same_contents}
 use Rattle.ic_grid.specs.Contents.{Contents}
-use Rattle.ic_machine.proofs.AlikeGrid.{get-seen}
+use Rattle.ic_machine.proofs.contents.AlikeGrid.{get-seen}
 use Rattle.ic_machine.specs.Alike.{seen_by}
 use Rattle.ic_machine.specs.Book as machine
 use Rattle.ic_machine.specs.Content.{Content, TextContent, content_of}

@@ -21,8 +21,8 @@ use Rattle.ic_tables.specs.declared.language.Language.{Language}
 use Rattle.ic_tree.proofs.NotationLaws.{english_function_is}
 use Rattle.ic_tree.specs.LanguageWords.{function_of}
 use Rattle.ic_keep.specs.declared.change.KeyChange.{KeyChange}
-use Rattle.ic_machine.proofs.InsertedStays.{all_mapped}
-use Rattle.ic_machine.proofs.UpdatedStays.{passes_at, update_name_stays}
+use Rattle.ic_machine.proofs.valid.InsertedStays.{all_mapped}
+use Rattle.ic_machine.proofs.valid.UpdatedStays.{passes_at, update_name_stays}
 use Rattle.ic_machine.specs.Book as machine
 use Rattle.ic_machine.specs.Book.{scene_in, unless}
 use Rattle.ic_machine.specs.Capture.{has_sites}

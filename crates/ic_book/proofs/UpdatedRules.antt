@@ -22,8 +22,8 @@ use Rattle.ic_tables.specs.declared.language.Language.{Language}
 use Rattle.ic_tree.proofs.NotationLaws.{english_function_is, notations_are}
 use Rattle.ic_tree.specs.LanguageWords.{function_of}
 use Rattle.ic_keep.proofs.Untouched.{body_is_settled, pooled_is_settled, untouched_formula_stays}
-use Rattle.ic_machine.proofs.CoreValid as machine_core
-use Rattle.ic_machine.proofs.UpdatedStays.{passes_at}
+use Rattle.ic_machine.proofs.as_core.CoreValid as machine_core
+use Rattle.ic_machine.proofs.valid.UpdatedStays.{passes_at}
 use Rattle.ic_machine.specs.Book as machine
 use Rattle.ic_machine.specs.Book.{core_of, scene_in}
 use Rattle.ic_machine.specs.Valid.{IsKeptPool}

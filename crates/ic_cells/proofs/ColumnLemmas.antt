@@ -31,7 +31,7 @@ pub all_set : (c : ℤ) → IsMarked 18446744073709551615 c
 all_set c = bit_at_ones 64 (column_bit c) (bit_below c)
 
 -- places that tie are one
-tie : (r : Ordering) → is_eq r ≡ true → r ≡ Equal
+pub tie : (r : Ordering) → is_eq r ≡ true → r ≡ Equal
 tie Less e = let no : false ≡ true = e in cc
 tie Equal e = refl
 tie Greater e = let no : false ≡ true = e in cc

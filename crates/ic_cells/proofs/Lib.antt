@@ -1,8 +1,8 @@
 mod CellExamples
-mod ColumnLemmas
+pub mod ColumnLemmas
 mod IndexLemmas
 mod Literals
-mod MapLemmas
-mod PlacedLemmas
-mod StyleLemmas
-mod TextLemmas
+pub mod MapLemmas
+pub mod PlacedLemmas
+pub mod StyleLemmas
+pub mod TextLemmas

@@ -9,13 +9,9 @@ use Rattle.std.specs.List.{slice_get}
 use Rattle.std.specs.Option.{unwrap_or}
 use Rattle.ic_cells.specs.Key.{place_by_key}
 use Rattle.ic_cells.specs.Listed.{IsFirstAt, IsPlaced, are_apart, number_in, place_in, with_item_in}
+use Rattle.ic_laws.proofs.General.{none_left, swap_places, bytes_eq-flip}
 
 -- ---- choices
-
-pub none_left : (b : Bool) (o : Option ℕ) → cond b (Some 0) (option_map suc o) ≡ None → (b ≡ false) × (o ≡ None)
-none_left true o e = cc
-none_left false None e = (refl, refl)
-none_left false (Some k) e = cc
 
 pub none_is : (o : Option ℕ) → not (is_some o) ≡ true → o ≡ None
 none_is None e = refl
@@ -23,12 +19,6 @@ none_is (Some k) e = cc
 
 is_none : (o : Option ℕ) → o ≡ None → not (is_some o) ≡ true
 is_none o e = ap (λ p. not (is_some p)) e
-
-swap_places : (t b : Bool) (n : ℕ) (r : Option ℕ) → (t ≡ true → b ≡ true → ⊥) → cond t (Some 0) (option_map suc (cond b (Some n) r)) ≡ cond b (Some (suc n)) (cond t (Some 0) (option_map suc r))
-swap_places true true n r h = absurd (h refl refl)
-swap_places true false n r h = refl
-swap_places false true n r h = refl
-swap_places false false n r h = refl
 
 below_zero : (o : Option ℕ) → None ≡ option_filter (λ p. ltb p 0) o
 below_zero None = refl
@@ -44,9 +34,6 @@ below_suc n false (Some k) =
     both : (b : Bool) → option_map suc (cond b (Some k) None) ≡ cond b (Some (suc k)) None
     both true = refl
     both false = refl
-
-pub bytes_eq-flip : (a b : List ℕ) → bytes_eq a b ≡ bytes_eq b a
-bytes_eq-flip a b = one_answer _ _ (bytes_eq-Decides a b) ((λ e. sym ((bytes_eq-Decides b a).0 e)), (λ e. (bytes_eq-Decides b a).1 (sym e)))
 
 -- ---- an item at its first place
 

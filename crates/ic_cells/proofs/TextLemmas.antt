@@ -23,7 +23,8 @@ use Rattle.ic_cells.specs.Key.{place_by_key}
 use Rattle.ic_cells.specs.Strings.{IsKnown, string_place}
 use Rattle.ic_cells.specs.TextPlaces.{Finds, IsHashed, IsKept, IsPut, KeepsFirst, below, checked, first_of, has_bytes, hash_of, text_found}
 use Rattle.ic_cells.specs.declared.text_places.TextPlaces.{TextPlaces}
-use Rattle.ic_cells.proofs.PlacedLemmas.{apart-push, apart-take, bytes_eq-flip, key-push, key-take, place_is}
+use Rattle.ic_cells.proofs.PlacedLemmas.{apart-push, apart-take, key-push, key-take, place_is}
+use Rattle.ic_laws.proofs.General.{bytes_eq-flip}
 
 abbrev first_place : List ℕ → List (List ℕ) → Option ℕ
 first_place bytes texts = place_by_key encode_utf8_all bytes texts

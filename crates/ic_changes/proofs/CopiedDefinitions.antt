@@ -12,10 +12,10 @@ use Rattle.ic_laws.specs.Name.{agrees}
 use Rattle.ic_laws.specs.Scene.{same_key, same_scope}
 use Rattle.ic_laws.specs.declared.tree.Formula.{Formula}
 use Rattle.ic_definitions.specs.Named.{key_in, scopes_of}
-use Rattle.ic_machine.proofs.CopyKeys.{copy_key, keys_with_copies, no_scope}
-use Rattle.ic_machine.proofs.CoreValid.{map_twice}
+use Rattle.ic_machine.proofs.bound.CopyKeys.{copy_key, keys_with_copies, no_scope}
 use Rattle.ic_machine.specs.subjects.Sheets.{copied_of, local_in, local_to, with_formula}
 use Rattle.ic_changes.specs.Copied.{with_each_body}
+use Rattle.ic_laws.proofs.General.{map-map as map_twice}
 
 -- no key before an item of a list is its own ----
 

@@ -21,12 +21,10 @@ use Rattle.ic_laws.specs.declared.scene.NameSpelling.{NameSpelling}
 use Rattle.ic_laws.specs.declared.scene.Scene.{Scene}
 use Rattle.ic_laws.specs.declared.scene.SheetName.{SheetName}
 use Rattle.ic_definitions.specs.Named.{definitions_scene, scopes_of}
-use Rattle.ic_machine.proofs.CopyKeys.{all_in_map, no_scope}
-use Rattle.ic_machine.proofs.CoreLemmas.{insert-map}
-use Rattle.ic_machine.proofs.CoreValid.{map_twice}
-use Rattle.ic_machine.proofs.DuplicatedStays.{free, parts}
-use Rattle.ic_machine.proofs.InsertedBinds.{insert_naming}
-use Rattle.ic_machine.proofs.ValidLemmas.{all_at}
+use Rattle.ic_machine.proofs.bound.CopyKeys.{all_in_map, no_scope}
+use Rattle.ic_machine.proofs.valid.DuplicatedStays.{free, parts}
+use Rattle.ic_machine.proofs.bound.InsertedBinds.{insert_naming}
+use Rattle.ic_machine.proofs.valid.ValidLemmas.{all_at}
 use Rattle.ic_machine.specs.Binds.{with_sheet_among}
 use Rattle.ic_machine.specs.Book as machine
 use Rattle.ic_machine.specs.Changed as changed
@@ -44,6 +42,7 @@ use Rattle.ic_parts.proofs.BookValid.{core_valid, grids_kept, notations, pools_v
 use Rattle.ic_parts.proofs.CopiedFormulas.{bodies_changed, others_changed}
 use Rattle.ic_parts.proofs.CopiedMentions.{become, ids_there, scene_with_more}
 use Rattle.ic_parts.proofs.WholeLemmas.{whole_core, whole_kept, whole_scene}
+use Rattle.ic_laws.proofs.General.{map-map as map_twice, insert-map}
 
 -- a book with a copy, as the machine has it ----
 

@@ -9,12 +9,12 @@ use Rattle.ic_laws.specs.BookTrees.{with_trees}
 use Rattle.ic_laws.specs.Changes.{changed_tree, sheet_named}
 use Rattle.ic_laws.specs.CoreBook.{CoreBook, fresh_id, scene_of}
 use Rattle.ic_laws.specs.Name.{is_sheet_name}
-use Rattle.ic_machine.proofs.CopiedBinds.{copied_is_meant}
-use Rattle.ic_machine.proofs.CopiedWords.{copied_means_same}
-use Rattle.ic_machine.proofs.CopyNames.{copy_is_good}
-use Rattle.ic_machine.proofs.DuplicatedStays.{duplicate_stays}
-use Rattle.ic_machine.proofs.NumberLemmas.{small}
-use Rattle.ic_machine.proofs.ValidLemmas.{all_at}
+use Rattle.ic_machine.proofs.bound.CopiedBinds.{copied_is_meant}
+use Rattle.ic_machine.proofs.bound.CopiedWords.{copied_means_same}
+use Rattle.ic_machine.proofs.bound.CopyNames.{copy_is_good}
+use Rattle.ic_machine.proofs.valid.DuplicatedStays.{duplicate_stays}
+use Rattle.ic_machine.proofs.bound.NumberLemmas.{small}
+use Rattle.ic_machine.proofs.valid.ValidLemmas.{all_at}
 use Rattle.ic_machine.specs.Book as machine
 use Rattle.ic_machine.specs.Book.{Stepped, found_or, unless}
 use Rattle.ic_machine.specs.Changed as changed

@@ -19,7 +19,7 @@ use Rattle.ic_laws.specs.declared.tree.NameKey.{NameKey}
 use Rattle.ic_cells.specs.Cell.{cell_formula_index}
 use Rattle.ic_cells.specs.declared.cell.Cell.{Cell}
 use Rattle.ic_definitions.specs.Named.{key_in}
-use Rattle.ic_machine.proofs.AlikeGrid.{entries-seen}
+use Rattle.ic_machine.proofs.contents.AlikeGrid.{entries-seen}
 use Rattle.ic_machine.specs.Book as machine
 use Rattle.ic_machine.specs.Book.{Entry}
 use Rattle.ic_machine.specs.Content.{content_of, formula_in, formula_index}

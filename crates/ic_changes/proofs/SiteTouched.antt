@@ -18,7 +18,7 @@ use Rattle.ic_definitions.specs.Named.{key_in}
 use Rattle.ic_definitions.specs.Remade.{LeavesBody, remade_body, touched_bodies}
 use Rattle.ic_definitions.specs.declared.bodies.NewBody.{NewBody}
 use Rattle.ic_keep.specs.Alike.{AreAlikeFormulas}
-use Rattle.ic_machine.proofs.ValidLemmas.{all_at}
+use Rattle.ic_machine.proofs.valid.ValidLemmas.{all_at}
 use Rattle.ic_machine.specs.Capture.{captured_body, captured_formula}
 use Rattle.ic_machine.specs.Content.{formula_in}
 use Rattle.ic_machine.specs.Refusal.{DefinitionSite, Site}
@@ -26,6 +26,7 @@ use Rattle.ic_pool.specs.Remade.{LeavesUntouched, Remade, touched_from}
 use Rattle.ic_pool.specs.declared.pool.rewrites.Replacement.{Replacement}
 use Rattle.ic_parts.specs.Sites.{IsAlikeBody, IsAlikeIn, body_site, body_sites, captures, captures_at, site_of}
 use Rattle.ic_parts.specs.declared.sites.MentionSite.TheVariants as sites
+use Rattle.ic_pool.proofs.ListedLemmas.{below as apart}
 
 -- what is left of a list from a place on: the item that stands there, and what is left from the next
 left_from : {X : Type 0} (all : List X) (at : ℕ) (x : X) (rest : List X) → drop at all ≡ x ∷ rest → (slice_get all at ≡ Some x) × (drop (suc at) all ≡ rest)
@@ -33,10 +34,6 @@ left_from [] zero x rest e = cc
 left_from [] (suc at) x rest e = cc
 left_from (y ∷ ys) zero x rest e = (let same : y ≡ x = cc in ap (λ z. Some z) same, let same : ys ≡ rest = cc in same)
 left_from (y ∷ ys) (suc at) x rest e = left_from ys at x rest e
-
-apart : (index at : ℕ) → index < at → (b : Bool) → nat_eq index at ≡ b → nat_eq index at ≡ false
-apart index at lt true e = let same = eqb-true index at e in absurd (omega arith)
-apart index at lt false e = e
 
 past_it : (index at : ℕ) → at ≤ index → nat_eq index at ≡ false → suc at ≤ index
 past_it index at le not_it =

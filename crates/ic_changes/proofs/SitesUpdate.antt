@@ -22,7 +22,7 @@ use Rattle.ic_definitions.specs.declared.bodies.NewBody.{NewBody}
 use Rattle.ic_keep.proofs.KeptAlike.{kept_formula_is_alike}
 use Rattle.ic_keep.proofs.Uncaptured.{untouched_uncaptured}
 use Rattle.ic_keep.specs.declared.change.KeyChange.{KeyChange}
-use Rattle.ic_machine.proofs.UpdatedStays.{passes_at}
+use Rattle.ic_machine.proofs.valid.UpdatedStays.{passes_at}
 use Rattle.ic_machine.specs.Book as machine
 use Rattle.ic_machine.specs.Book.{core_of, notations_in, scene_in}
 use Rattle.ic_machine.specs.Capture.{captured_cells, captured_sites}

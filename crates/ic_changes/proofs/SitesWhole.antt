@@ -16,7 +16,7 @@ use Rattle.ic_cells.specs.declared.cell.Cell.{Cell}
 use Rattle.ic_definitions.specs.Named.{key_in}
 use Rattle.ic_definitions.specs.Remade.{remade_body}
 use Rattle.ic_definitions.specs.declared.bodies.NewBody.{NewBody}
-use Rattle.ic_machine.proofs.AlikeGrid.{entries-seen}
+use Rattle.ic_machine.proofs.contents.AlikeGrid.{entries-seen}
 use Rattle.ic_machine.specs.Book as machine
 use Rattle.ic_machine.specs.Book.{Entry}
 use Rattle.ic_machine.specs.Capture.{captured_at, captured_body, captured_cells, captured_formula, captured_sites}

@@ -11,8 +11,8 @@ use Rattle.ic_grid.specs.Merges.{is_covered}
 use Rattle.ic_grid.specs.Shape.{celled}
 use Rattle.ic_input.specs.declared.input.Typed.{Typed}
 use Rattle.ic_input.specs.declared.input.Typed.TheVariants as kinds
-use Rattle.ic_machine.proofs.AlikeGrid.{is_fixed_at-seen}
-use Rattle.ic_machine.proofs.AlikeLemmas.{cells_are_contents}
+use Rattle.ic_machine.proofs.contents.AlikeGrid.{is_fixed_at-seen}
+use Rattle.ic_machine.proofs.contents.AlikeLemmas.{cells_are_contents}
 use Rattle.ic_machine.specs.Book as machine
 use Rattle.ic_machine.specs.Book.{Stepped, found_or, unless}
 use Rattle.ic_machine.specs.Content.{content_of, held}

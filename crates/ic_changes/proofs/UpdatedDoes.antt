@@ -1,6 +1,6 @@
 -- What an update of a definition does is the machine's step, and so is the question whether it would capture.
 use Rattle.std.proofs.Common.{◌≡◌, List, [], ◌∷◌, Bool, true, false, if◌then◌else◌, Option, Some, None, Result, Ok, Err, refl, sym, ap, ap₂, subst, ◌∙◌, inl, inr, IfOk, IsErr, IsErrAnd, OnErr, OnOk}
-use Rattle.ic_machine.proofs.UpdatedBinds.{updated_is_meant}
+use Rattle.ic_machine.proofs.bound.UpdatedBinds.{updated_is_meant}
 use Rattle.ic_machine.specs.Binds.{UpdatesWords}
 use Rattle.ic_machine.specs.Book as machine
 use Rattle.ic_machine.specs.Book.{Stepped, unless}

@@ -1,7 +1,6 @@
 -- What a search by a key finds among definitions.
 use Rattle.std.proofs.Common.{◌≡◌, ℕ, suc, ◌+◌, ◌<◌, List, [], ◌∷◌, ◌++◌, map, Bool, true, false, cond, ◌&&◌, Option, Some, None, option_map, option_to_list, is_some, refl, sym, ap, ap₂, ◌∙◌, arith}
 use Rattle.std.specs.Prelude.{bytes_eq, find, position, slice_get}
-use Rattle.std.specs.List.{position_from}
 use Rattle.std.specs.Option.{option_and_then, option_or}
 use Rattle.std.proofs.lemmas.Bool.{lt-ltb, ltb-true, ne_eqb}
 use Rattle.std.proofs.lemmas.Iterator.Adapters.{position_from-zero}
@@ -17,16 +16,9 @@ use Rattle.ic_laws.specs.declared.scene.NameSpelling.{NameSpelling}
 use Rattle.ic_laws.specs.declared.scene.Scene.{Scene}
 use Rattle.ic_laws.specs.declared.tree.NameKey.{NameKey}
 use Rattle.ic_definitions.specs.Named.{definitions_scene, index_with_key, is_past, key_in, scopes_of}
+use Rattle.ic_laws.proofs.General.{counted_later}
 
 -- ---- by a test
-
-counted_later : {X : Type 0} (p : X → Bool) (at : ℕ) (xs : List X) → position_from p (at + 1) xs ≡ option_map suc (position_from p at xs)
-counted_later p at [] = refl
-counted_later {X} p at (x ∷ xs) = step (p x) (counted_later p (at + 1) xs)
-  where
-    step : (b : Bool) → position_from p (at + 1 + 1) xs ≡ option_map suc (position_from p (at + 1) xs) → cond b (Some (at + 1)) (position_from p (at + 1 + 1) xs) ≡ option_map suc (cond b (Some at) (position_from p (at + 1) xs))
-    step true e = ap (λ n. Some n) (let next : at + 1 ≡ suc at = omega arith in next)
-    step false e = e
 
 -- the first place of what passes is that of the first item, or else one more than among the others
 pub position_step : {X : Type 0} (p : X → Bool) (x : X) (xs : List X) → position p (x ∷ xs) ≡ cond (p x) (Some 0) (option_map suc (position p xs))

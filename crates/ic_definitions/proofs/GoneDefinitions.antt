@@ -1,5 +1,5 @@
 -- What a word finds when the definition that it means goes.
-use Rattle.std.proofs.Common.{◌≡◌, ◌<◌, ℕ, List, map, length, get_or, Bool, true, false, ◌&&◌, Option, Some, None, option_map, refl, sym, ap, ap₂, subst, ◌∙◌}
+use Rattle.std.proofs.Common.{◌≡◌, ◌<◌, ℕ, List, map, length, get_or, Bool, ◌&&◌, Option, Some, None, option_map, refl, sym, ap, ap₂, subst, ◌∙◌}
 use Rattle.std.proofs.lemmas.Simd.{map-map}
 use Rattle.std.specs.Prelude.{bytes_eq, remove, slice_get}
 use Rattle.std.specs.List.{IsDistinct, find}
@@ -17,10 +17,7 @@ use Rattle.ic_laws.specs.declared.tree.NameKey.{NameKey}
 use Rattle.ic_laws.specs.declared.tree.NameMention.{NameMention}
 use Rattle.ic_laws.specs.declared.tree.NameMention.TheVariants as names
 use Rattle.ic_definitions.specs.Named.{definitions_scene, key_in}
-
-never : (a : Bool) → (a && false) ≡ false
-never true = refl
-never false = refl
+use Rattle.ic_pool.proofs.ChangeLemmas.{both_false as never}
 
 twice : (o : Option NameSpelling) → option_map key_of (option_or o o) ≡ option_map key_of o
 twice None = refl

@@ -10,7 +10,6 @@ use Rattle.std.specs.Option.{option_cmp, option_eq}
 use Rattle.std.specs.Ordering.{eq_by_cmp, is_eq, nat_cmp, ordering_then}
 use Rattle.std.specs.String.{string_cmp, string_cmp_total, string_eq}
 use Rattle.std.specs.declared.cmp.Ordering.{Ordering}
-use Rattle.std.specs.declared.cmp.Ordering.TheVariants.{Less, Equal, Greater}
 use Rattle.std.proofs.lemmas.Bool.{and_parts, and_from}
 use Rattle.std.proofs.lemmas.Map.Entries.{lookup-filter-values, option_filter}
 use Rattle.std.proofs.lemmas.Map.Keys.{IsDistinct-tail, IsDistinct-from_sorted}
@@ -21,8 +20,10 @@ use Rattle.ic_laws.proofs.binding.SceneLemmas.{same_scope_self}
 use Rattle.ic_laws.proofs.keeping.NameChanges.{same_scope_from}
 use Rattle.ic_laws.specs.Scene.{same_key, same_scope}
 use Rattle.ic_laws.specs.declared.tree.NameKey.{NameKey}
-use Rattle.ic_pool.proofs.KeyLemmas.{bytes_eq-flip, clash}
+use Rattle.ic_pool.proofs.KeyLemmas.{clash}
 use Rattle.ic_definitions.specs.Named.{HeldKey, IsHeldKey, Places, is_held_key, key_cmp, place_at}
+use Rattle.ic_laws.proofs.core.Defined.{scope_symm as scope-flip}
+use Rattle.ic_laws.proofs.General.{both_equal, bytes_eq-flip}
 
 -- ---- the order of the keys
 
@@ -31,11 +32,6 @@ held_cmp x y = ordering_then (string_cmp x.0 y.0) (option_cmp nat_cmp x.1 y.1)
 
 pub held_total : IsTotalOrder held_cmp
 held_total = then_total (on_total (λ (k : HeldKey). k.0) string_cmp_total) (on_total (λ (k : HeldKey). k.1) (options_total nat_cmp_total))
-
-both_equal : (a b : Ordering) → is_eq (ordering_then a b) ≡ (is_eq a && is_eq b)
-both_equal Less b = refl
-both_equal Equal b = refl
-both_equal Greater b = refl
 
 equal_numbers : (a b : ℕ) → is_eq (nat_cmp a b) ≡ same_scope (Some a) (Some b)
 equal_numbers a b = sym (unsigned_ties a b)
@@ -51,9 +47,6 @@ at_key : (bytes : List ℕ) (scope : Option ℕ) (held : HeldKey) → is_at (key
 at_key bytes scope held =
     both_equal (slice_cmp nat_cmp bytes (string_bytes held.0)) (option_cmp nat_cmp scope held.1)
     ∙ ap₂ ◌&&◌ (is_eq-slice_cmp bytes (string_bytes held.0)) (equal_scopes scope held.1)
-
-scope-flip : (a b : Option ℕ) → same_scope a b ≡ same_scope b a
-scope-flip a b = one_answer {P = a ≡ b} _ _ (same_scope_from a b, λ e. ap (same_scope a) (sym e) ∙ same_scope_self a) ((λ e. sym (same_scope_from b a e)), λ e. ap (same_scope b) e ∙ same_scope_self b)
 
 pub key_is_at : (q : NameKey) (held : HeldKey) → is_at (key_cmp (encode_utf8_all q.name) q.scope) held ≡ is_held_key q held
 key_is_at q held = at_key (encode_utf8_all q.name) q.scope held ∙ ap₂ ◌&&◌ (bytes_eq-flip (encode_utf8_all q.name) (string_bytes held.0)) (scope-flip q.scope held.1)

@@ -32,16 +32,10 @@ use Rattle.ic_definitions.specs.declared.bodies.NewBody.{NewBody}
 use Rattle.ic_definitions.specs.declared.mentioned.Mentioned.{Mentioned}
 use Rattle.ic_definitions.proofs.AppendedNames.{all_taken}
 use Rattle.ic_definitions.proofs.BodyLemmas.{with_body}
+use Rattle.ic_pool.proofs.MentioningLemmas.{or_false}
+use Rattle.ic_pool.proofs.PlaceLemmas.{or_true}
 
 -- ---- sets of topics
-
-or_false : (b : Bool) → b ≡ (b || false)
-or_false true = refl
-or_false false = refl
-
-or_true : (b : Bool) → (b || true) ≡ true
-or_true true = refl
-or_true false = refl
 
 or_both : (a b c : Bool) → ((a || b) || c) ≡ (a || (b || c))
 or_both true b c = refl
@@ -77,9 +71,6 @@ call_topics word w arguments all tree is first second =
 pub record PutSoFar (before now : BTreeSet ℕ) (all left : List ℕ) : Type 0 where
   pub same : (topic : ℕ) → (contains nat_cmp now topic || is_among topic left) ≡ (contains nat_cmp before topic || is_among topic all)
 
-pub put_none : (set : BTreeSet ℕ) (all left : List ℕ) → left ≡ all → PutSoFar set set all left
-put_none set all left same = record { same = λ topic. ap (λ ts. contains nat_cmp set topic || is_among topic ts) same }
-
 pub put_next : (before now after : BTreeSet ℕ) (all left more rest : List ℕ) → PutSoFar before now all left → left ≡ more ++ rest → HasMore now after more → PutSoFar before after all rest
 put_next before now after all left more rest so_far is put = record {
   same = λ topic.
@@ -88,10 +79,6 @@ put_next before now after all left more rest so_far is put = record {
       ∙ ap (λ b. contains nat_cmp now topic || b) (sym (ap (is_among topic) is ∙ list_any-append (nat_eq topic) more rest))
       ∙ so_far.same topic;
 }
-
-pub put_whole : (before now : BTreeSet ℕ) (all left : List ℕ) → PutSoFar before now all left → left ≡ [] → HasMore before now all
-put_whole before now all left so_far none topic =
-    or_false (contains nat_cmp now topic) ∙ ap (λ ts. contains nat_cmp now topic || is_among topic ts) (sym none) ∙ so_far.same topic
 
 -- the topics of a body that are put in are known, and those of one that was known stay so
 pub noted_known : (before after : BTreeSet ℕ) (topics : List ℕ) → HasMore before after topics → (topic : ℕ) → is_among topic topics ≡ true → contains nat_cmp after topic ≡ true

@@ -11,7 +11,7 @@ use Rattle.ic_machine.specs.Book.{Book, Entry, Sheet, core_cells, core_of, core_
 use Rattle.ic_machine.specs.Changed.{with_kept_formulas, with_kept_pool}
 use Rattle.ic_machine.specs.Refusal.{Causes, Refusal, first_refusal}
 use Rattle.ic_machine.specs.Reply.{Field}
-use Rattle.ic_machine.proofs.CoreLemmas.{no_cells}
+use Rattle.ic_machine.proofs.as_core.CoreLemmas.{no_cells}
 use Rattle.ic_dump.specs.Stages.{bare_sheet, with_bare}
 
 -- The core. ----

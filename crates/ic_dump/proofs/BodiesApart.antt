@@ -14,7 +14,7 @@ use Rattle.ic_laws.specs.declared.scene.SheetName.{SheetName}
 use Rattle.ic_laws.specs.declared.tree.Formula.{Formula}
 use Rattle.ic_laws.specs.declared.tree.Formula.TheVariants as formulas
 use Rattle.std.specs.Prelude.{pos}
-use Rattle.ic_machine.proofs.ValidLemmas.{all_of}
+use Rattle.ic_machine.proofs.valid.ValidLemmas.{all_of}
 use Rattle.ic_laws.proofs.core.Lists.{none_passes}
 use Rattle.ic_dump.specs.Passing.{formulas_in, passing_sheets, taken_names, unfound_of}
 use Rattle.ic_dump.proofs.ApartLemmas.{IsNoName, stays_over, with_sheets}

@@ -38,9 +38,9 @@ use Rattle.ic_machine.specs.Translation.{in_notation}
 use Rattle.ic_machine.specs.Valid.{IsValidBook}
 use Rattle.ic_machine.specs.subjects.Definitions as definitions
 use Rattle.ic_machine.specs.subjects.Definitions.{update_body, update_of}
-use Rattle.ic_machine.proofs.CoreValid.{core_valid}
-use Rattle.ic_machine.proofs.TextEnds.{EndsSolid, equals_front, no_equals, printed_tight, tight_front, trimmed_tight, without_equals_front}
-use Rattle.ic_machine.proofs.TreeAgain.{error_there, fits_there, force_there, form_there, language, reads_there, references_there}
+use Rattle.ic_machine.proofs.as_core.CoreValid.{core_valid}
+use Rattle.ic_machine.proofs.again.TextEnds.{EndsSolid, equals_front, no_equals, printed_tight, tight_front, trimmed_tight, without_equals_front}
+use Rattle.ic_machine.proofs.again.TreeAgain.{error_there, fits_there, force_there, form_there, language, reads_there, references_there}
 use Rattle.ic_dump.specs.Lines.{body_line, english_body, in_english}
 use Rattle.ic_dump.specs.Passing.{passing_sheets, standing_sheets, unfound_of}
 use Rattle.ic_dump.specs.Refused.{RawBody, is_raw, raw_body}

@@ -37,9 +37,9 @@ use Rattle.ic_machine.specs.subjects.Styles as styles
 use Rattle.ic_machine.specs.subjects.Styles.{style_action}
 use Rattle.ic_machine.specs.subjects.Tabs as tabs
 use Rattle.ic_machine.specs.subjects.Tabs.{tab_action}
-use Rattle.ic_machine.proofs.CopyKeys.{all_appended, all_in_map}
-use Rattle.ic_machine.proofs.KindLemmas.{definitions_left, left_by_kind}
-use Rattle.ic_machine.proofs.ValidLemmas.{all_of, all_put}
+use Rattle.ic_machine.proofs.bound.CopyKeys.{all_appended, all_in_map}
+use Rattle.ic_machine.proofs.kinds.KindLemmas.{definitions_left, left_by_kind}
+use Rattle.ic_machine.proofs.valid.ValidLemmas.{all_of, all_put}
 use Rattle.ic_dump.specs.Refused.{is_raw, raw_body}
 use Rattle.ic_dump.proofs.ListLemmas.{filtered_holds}
 use Rattle.ic_dump.proofs.RunLemmas.{run}

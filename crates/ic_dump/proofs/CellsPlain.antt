@@ -19,9 +19,9 @@ use Rattle.ic_machine.specs.InForce.{formula_typed}
 use Rattle.ic_machine.specs.Refusal.{InvalidSheet, NotAFormula, first_refusal}
 use Rattle.ic_machine.specs.Reply.{Field}
 use Rattle.ic_machine.specs.subjects.Writing.{formula_at_place, formula_step, formula_written, place_causes, with_written, write_causes}
-use Rattle.ic_machine.proofs.HaveLemmas.{AllHave, all_put, all_remade}
-use Rattle.ic_machine.proofs.InsertedBinds.{accepted}
-use Rattle.ic_machine.proofs.ValidLemmas.{all_at, all_put as all_replaced}
+use Rattle.ic_machine.proofs.contents.HaveLemmas.{AllHave, all_put, all_remade}
+use Rattle.ic_machine.proofs.bound.InsertedBinds.{accepted}
+use Rattle.ic_machine.proofs.valid.ValidLemmas.{all_at, all_put as all_replaced}
 
 -- a content is no first cell of a Cse array
 abbrev pub IsPlain : Content → Type 0

@@ -38,7 +38,7 @@ use Rattle.ic_laws.specs.declared.scene.SheetName.{SheetName}
 use Rattle.ic_laws.specs.declared.tree.Formula.{Formula}
 use Rattle.ic_laws.specs.declared.tree.Formula.TheVariants as formulas
 use Rattle.ic_tables.specs.Tables.{language_of, locale_of}
-use Rattle.ic_tree.proofs.ClashLemmas.{english_binds, there}
+use Rattle.ic_tree.proofs.ClashLemmas.{english_binds}
 use Rattle.ic_tree.proofs.NotationLaws.{knows_language_is, knows_locale_is, notations_are}
 use Rattle.ic_tree.specs.Notations.{notations_of}
 use Rattle.ic_cells.specs.declared.layout.Merge.{Merge}
@@ -54,11 +54,11 @@ use Rattle.ic_machine.specs.TranslationLaws.{AreAccepted}
 use Rattle.ic_machine.specs.Valid.{HasCellFormulas, HasFormula, IsValidBook}
 use Rattle.ic_machine.specs.subjects.Writing as writing
 use Rattle.ic_machine.specs.subjects.Writing.{formula_step}
-use Rattle.ic_machine.proofs.CoreValid.{core_valid}
-use Rattle.ic_machine.proofs.FormulaStepped.{formula_told}
-use Rattle.ic_machine.proofs.RetypedLemmas.{empty_reads, in_force_is}
-use Rattle.ic_machine.proofs.ValidLemmas.{all_at}
-use Rattle.ic_machine.proofs.WritingSteps.{writing_stays}
+use Rattle.ic_machine.proofs.as_core.CoreValid.{core_valid}
+use Rattle.ic_machine.proofs.as_core.FormulaStepped.{formula_told}
+use Rattle.ic_machine.proofs.valid.RetypedLemmas.{empty_reads, in_force_is}
+use Rattle.ic_machine.proofs.valid.ValidLemmas.{all_at}
+use Rattle.ic_machine.proofs.valid.WritingSteps.{writing_stays}
 use Rattle.ic_dump.specs.Lines.{cell_line, cell_lines_from, english_formula, in_english, lines_of_cells}
 use Rattle.ic_dump.specs.Refused.{rereading, rereading_cell, rereading_cells, rereads}
 use Rattle.ic_dump.specs.Stages.{WritesCells, bare_sheet, with_bare}
@@ -69,7 +69,8 @@ use Rattle.ic_dump.proofs.RunLemmas.{accepted_both, line_accepted, line_leaves, 
 use Rattle.ic_dump.proofs.SaidAgain.{position_again}
 use Rattle.ic_dump.proofs.TextsRead.{cell_read}
 use Rattle.ic_grid.proofs.WriteLemmas.{none_there as nothing_there}
-use Rattle.ic_machine.proofs.LineRead.{made_of as mapped_some}
+use Rattle.ic_laws.proofs.tokens.Splits.{mapped as mapped_some}
+use Rattle.ic_laws.proofs.General.{some_there as there}
 
 -- Cells in their order. ----
 

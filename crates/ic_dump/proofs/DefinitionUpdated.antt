@@ -39,10 +39,10 @@ use Rattle.ic_machine.specs.Refusal.{DefinitionSite, Site}
 use Rattle.ic_machine.specs.Valid.{IsValidBook}
 use Rattle.ic_machine.specs.subjects.Definitions as definitions
 use Rattle.ic_machine.specs.subjects.Definitions.{Update, captures, keys_of_update, meets_other, new_scope_id, old_key, old_scope, update_body, update_causes, update_name_step, update_of, updated_book, updated_index, with_body, with_update}
-use Rattle.ic_machine.proofs.CoreLemmas.{no_cells}
-use Rattle.ic_machine.proofs.CoreValid.{core_valid}
-use Rattle.ic_machine.proofs.NamesStay.{definitions_stay}
-use Rattle.ic_machine.proofs.ValidLemmas.{all_of}
+use Rattle.ic_machine.proofs.as_core.CoreLemmas.{no_cells}
+use Rattle.ic_machine.proofs.as_core.CoreValid.{core_valid}
+use Rattle.ic_machine.proofs.valid.NamesStay.{definitions_stay}
+use Rattle.ic_machine.proofs.valid.ValidLemmas.{all_of}
 use Rattle.ic_laws.proofs.core.Lists.{none_passes}
 use Rattle.ic_dump.specs.Stages.{bare_sheet, with_bare}
 use Rattle.ic_dump.proofs.BareBooks.{kept_same_bare, scene_bare, unrefused}

@@ -29,7 +29,6 @@ use Rattle.ic_laws.specs.declared.tree.Formula.{Formula}
 use Rattle.ic_laws.specs.declared.tree.Formula.TheVariants as formulas
 use Rattle.ic_laws.specs.declared.tree.NameKey.{NameKey}
 use Rattle.ic_tables.specs.Tables.{language_of}
-use Rattle.ic_tree.proofs.ClashLemmas.{there}
 use Rattle.ic_tree.proofs.NotationLaws.{knows_language_is, notations_are}
 use Rattle.ic_tree.specs.Notations.{notations_of}
 use Rattle.ic_machine.specs.Book.{Book, Stepped, as_core, core_of, notations_in, scene_in}
@@ -40,10 +39,10 @@ use Rattle.ic_machine.specs.Step.{english_errors}
 use Rattle.ic_machine.specs.Valid.{IsValidBook}
 use Rattle.ic_machine.specs.subjects.Definitions as definitions
 use Rattle.ic_machine.specs.subjects.Definitions.{new_definition_step, with_new_definition}
-use Rattle.ic_machine.proofs.BodyAgain.{lambda_again, references_end}
-use Rattle.ic_machine.proofs.CoreValid.{core_valid}
-use Rattle.ic_machine.proofs.NamesStay.{definitions_stay}
-use Rattle.ic_machine.proofs.TextEnds.{is_solid}
+use Rattle.ic_machine.proofs.again.BodyAgain.{lambda_again, references_end}
+use Rattle.ic_machine.proofs.as_core.CoreValid.{core_valid}
+use Rattle.ic_machine.proofs.valid.NamesStay.{definitions_stay}
+use Rattle.ic_machine.proofs.again.TextEnds.{is_solid}
 use Rattle.ic_laws.proofs.core.Lists.{none_passes}
 use Rattle.ic_dump.specs.Lines.{defining_line, plain_body}
 use Rattle.ic_dump.specs.Passing.{standing_sheets}
@@ -56,6 +55,7 @@ use Rattle.ic_dump.proofs.RunLemmas.{leads_both, leads_line, leads_nowhere}
 use Rattle.ic_dump.proofs.ScopeWords.{index_of_scope, scope_there, word_said}
 use Rattle.ic_dump.proofs.StandLemmas.{HasPlace, Stands, stands}
 use Rattle.ic_dump.proofs.TextsRead.{defining_read}
+use Rattle.ic_laws.proofs.General.{some_there as there}
 
 abbrev key : Definition → NameKey
 key d = key_of (spelling_of d)

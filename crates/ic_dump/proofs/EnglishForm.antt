@@ -11,9 +11,10 @@ use Rattle.ic_tables.proofs.WellFormed.{english_words}
 use Rattle.ic_tables.specs.Tables.{IsWellFormed, TableSet, language_of, locale_of}
 use Rattle.ic_tables.specs.Words.{has_stored_booleans, has_stored_functions, has_stored_words, is_text}
 use Rattle.ic_tables.specs.declared.language.Language.{Language}
-use Rattle.ic_tree.proofs.ClashLemmas.{shown_as, there}
+use Rattle.ic_tree.proofs.ClashLemmas.{shown_as}
 use Rattle.ic_tree.proofs.NotationLaws.{knows_language_is, knows_locale_is, notations_are}
 use Rattle.ic_tree.specs.Notations.{notations_of}
+use Rattle.ic_laws.proofs.General.{some_there as there}
 
 text_is : (o : Option (List ℕ)) (text : List ℕ) → is_text o text ≡ true → unwrap_or o [] ≡ text
 text_is None text e = absurd (cc)

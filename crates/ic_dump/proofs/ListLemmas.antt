@@ -14,8 +14,8 @@ use Rattle.std.specs.Set.{is_member}
 use Rattle.std.specs.declared.cmp.Ordering.{Ordering}
 use Rattle.std.specs.declared.cmp.Ordering.TheVariants.{Less}
 use Rattle.ic_laws.specs.CoreStep.{updated_at}
-use Rattle.ic_machine.proofs.ValidLemmas.{all_of}
-use Rattle.ic_machine.proofs.CopyKeys.{all_appended}
+use Rattle.ic_machine.proofs.valid.ValidLemmas.{all_of}
+use Rattle.ic_machine.proofs.bound.CopyKeys.{all_appended}
 pub use Rattle.ic_changes.proofs.Uncopied.{none_filtered}
 
 -- What holds of all of a list. ----

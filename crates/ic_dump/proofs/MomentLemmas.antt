@@ -4,7 +4,7 @@ use Rattle.ic_lines.specs.Bytes.{AppendsFront}
 use Rattle.ic_tables.specs.Tables.{TableSet}
 use Rattle.ic_cells.specs.declared.workbook.Metadata.{Metadata}
 use Rattle.ic_machine.specs.Book.{Book, core_of, notations_in}
-use Rattle.ic_machine.proofs.MetadataFree.{with_metadata}
+use Rattle.ic_machine.proofs.same.MetadataFree.{with_metadata}
 use Rattle.ic_parts.specs.Book as held
 use Rattle.ic_parts.specs.Whole.{whole_of}
 use Rattle.ic_run.proofs.MomentLemmas.{anytime}

@@ -8,7 +8,7 @@ use Rattle.std.specs.Fmt.{decimal}
 use Rattle.std.specs.List.{AllByRecursion, IsDistinct, list_any, range_with_len}
 use Rattle.std.specs.Prelude.{nat_le, nat_lt}
 use Rattle.ic_laws.specs.Name.{agrees, is_forbidden, is_sheet_name}
-use Rattle.ic_machine.proofs.NewNames.{digits_good, numbers_apart}
+use Rattle.ic_machine.proofs.bound.NewNames.{digits_good, numbers_apart}
 
 unlike : (a n : ℕ) → a < n → n < 2 ^ 64 → agrees (decimal a) (decimal n) ≡ false
 unlike a n less fits = elim (cases_Bool (agrees (decimal a) (decimal n))) [

@@ -28,9 +28,9 @@ use Rattle.ic_machine.specs.Step.{english_errors}
 use Rattle.ic_machine.specs.Valid.{IsValidBook}
 use Rattle.ic_machine.specs.subjects.Sheets as sheets
 use Rattle.ic_machine.specs.subjects.Sheets.{delete_sheet_step}
-use Rattle.ic_machine.proofs.CoreValid.{core_valid}
-use Rattle.ic_machine.proofs.NamesStay.{sheets_stay}
-use Rattle.ic_machine.proofs.ValidLemmas.{all_of}
+use Rattle.ic_machine.proofs.as_core.CoreValid.{core_valid}
+use Rattle.ic_machine.proofs.valid.NamesStay.{sheets_stay}
+use Rattle.ic_machine.proofs.valid.ValidLemmas.{all_of}
 use Rattle.ic_dump.specs.Lines.{deleting_line, deleting_lines}
 use Rattle.ic_dump.specs.Passing.{passing_sheets, unfound_of}
 use Rattle.ic_dump.specs.Stages.{DeletesPassing, Leads, bare_sheet, with_bare}

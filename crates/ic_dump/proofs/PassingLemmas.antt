@@ -16,8 +16,9 @@ use Rattle.std.specs.List.{list_all, list_any, range_with_len}
 use Rattle.ic_laws.proofs.FoldLaws.{fold-fixed, is_fixed}
 use Rattle.ic_laws.specs.Name.{agrees, fold}
 use Rattle.ic_tables.specs.Words.{FindsFoldings}
-use Rattle.ic_sheets.proofs.IndexLemmas.{bytes_eq-flip, same_encoded}
 use Rattle.ic_dump.specs.Passing.{is_free}
+use Rattle.ic_cells.proofs.TextLemmas.{same_bytes as same_encoded}
+use Rattle.ic_laws.proofs.General.{bytes_eq-flip}
 
 module _ (taken : List (List ℕ)) where
   -- the numerals that are free among so many, from a number on

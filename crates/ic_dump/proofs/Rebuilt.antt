@@ -1,7 +1,7 @@
 -- The lines of a dump rebuild the skeleton of the book from each new one.
-use Rattle.std.proofs.Common.{◌≡◌, [], ◌∷◌, not, Option, Some, None, codes, refl, sym, ap, subst}
+use Rattle.std.proofs.Common.{◌≡◌, [], ◌∷◌, not, None, codes, refl, sym, ap, subst}
 use Rattle.std.proofs.lemmas.Bool.{not-false}
-use Rattle.std.specs.Prelude.{IsNone, is_none}
+use Rattle.std.specs.Prelude.{is_none}
 use Rattle.ic_laws.proofs.keeping.Accepted.{none_holds}
 use Rattle.ic_laws.specs.CoreBook.{CoreBook}
 use Rattle.ic_laws.specs.Refusal.{InvalidLanguage, InvalidLocale, InvalidTimezone}
@@ -18,10 +18,7 @@ use Rattle.ic_dump.specs.Refused.{cause_of}
 use Rattle.ic_dump.specs.Stages.{Fills, HasFewNames, book_started}
 use Rattle.ic_dump.proofs.AllStages.{all_stages}
 use Rattle.ic_workbooks.proofs.AcceptedWorkbook.{some_there}
-
-none_there : {A : Type 0} (o : Option A) → IsNone o → o ≡ None
-none_there None e = refl
-none_there (Some x) e = cc
+use Rattle.ic_laws.proofs.printing.Trees.{none_is as none_there}
 
 pub rebuilds : (book : Book) → IsValidBook book → cause_of (notations_in book) (core_of book) ≡ None → HasFewNames (core_of book) → Rebuilds book.tables (dump_lines (notations_in book) (core_of book)) (core_of book)
 rebuilds book valid none few unrefused created plain =

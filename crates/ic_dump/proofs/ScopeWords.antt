@@ -10,7 +10,7 @@ use Rattle.ic_laws.specs.CoreBook.{Definition, last_id}
 use Rattle.ic_laws.specs.CoreStep.{scope_of}
 use Rattle.ic_laws.specs.declared.scene.SheetName.{SheetName}
 use Rattle.ic_machine.specs.Book.{Book, core_of, core_sheet}
-use Rattle.ic_machine.proofs.UpdatedStays.{none_passes_at, passes_at}
+use Rattle.ic_machine.proofs.valid.UpdatedStays.{none_passes_at, passes_at}
 use Rattle.ic_dump.specs.Lines.{index_standing, scope_word}
 use Rattle.ic_dump.specs.Stages.{bare_sheet, with_bare}
 use Rattle.ic_dump.proofs.SaidAgain.{scope_again}

@@ -24,12 +24,11 @@ use Rattle.ic_machine.specs.Step.{english_errors}
 use Rattle.ic_machine.specs.Valid.{IsValidBook}
 use Rattle.ic_machine.specs.subjects.Sheets as sheets
 use Rattle.ic_machine.specs.subjects.Sheets.{insert_causes, insert_sheet_step, rename_by_index_step, with_inserted_sheet}
-use Rattle.ic_machine.proofs.CoreLemmas.{insert-map}
-use Rattle.ic_machine.proofs.CoreValid.{core_valid}
-use Rattle.ic_machine.proofs.InsertedStays.{insert_stays}
-use Rattle.ic_machine.proofs.NamesStay.{sheets_stay}
-use Rattle.ic_machine.proofs.ValidLemmas.{all_of}
-use Rattle.ic_machine.proofs.CopyKeys.{all_in_map}
+use Rattle.ic_machine.proofs.as_core.CoreValid.{core_valid}
+use Rattle.ic_machine.proofs.valid.InsertedStays.{insert_stays}
+use Rattle.ic_machine.proofs.valid.NamesStay.{sheets_stay}
+use Rattle.ic_machine.proofs.valid.ValidLemmas.{all_of}
+use Rattle.ic_machine.proofs.bound.CopyKeys.{all_in_map}
 use Rattle.ic_laws.proofs.core.Lists.{none_passes}
 use Rattle.ic_dump.specs.Lines.{first_id, inserting_line, inserting_lines_from, is_first, naming_line}
 use Rattle.ic_dump.specs.Passing.{standing_sheets}
@@ -39,6 +38,7 @@ use Rattle.ic_dump.proofs.ListLemmas.{IsOnly, filtered_holds, insert_seam, middl
 use Rattle.ic_dump.proofs.RunLemmas.{leads_both, leads_line, leads_nowhere, leads_there}
 use Rattle.ic_dump.proofs.StandLemmas.{IsGood, Stands, id_of, name_of, stands}
 use Rattle.ic_dump.proofs.TextsRead.{inserting_read, naming_read}
+use Rattle.ic_laws.proofs.General.{insert-map}
 
 -- The first is named. ----
 

@@ -18,8 +18,8 @@ use Rattle.ic_laws.specs.Name.{agrees, is_sheet_name}
 use Rattle.ic_laws.specs.Notations.{Notations}
 use Rattle.ic_laws.specs.ValidCore.{IsScope, IsValidCore, IsValidDefinition, IsValidSheet}
 use Rattle.ic_laws.specs.declared.scene.SheetName.{SheetName}
-use Rattle.ic_machine.proofs.ValidLemmas.{all_of}
-use Rattle.ic_machine.proofs.CopyKeys.{all_appended, all_in_map}
+use Rattle.ic_machine.proofs.valid.ValidLemmas.{all_of}
+use Rattle.ic_machine.proofs.bound.CopyKeys.{all_appended, all_in_map}
 use Rattle.ic_dump.specs.Lines.{first_id, is_first}
 use Rattle.ic_dump.specs.Passing.{free_numerals, is_free, other_ids, passing_ids, passing_sheets, scopes_of, sheet_named, standing_sheets, taken_names}
 use Rattle.ic_dump.specs.Stages.{HasFewNames, HasNumerals}

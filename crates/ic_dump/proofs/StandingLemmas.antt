@@ -16,6 +16,7 @@ use Rattle.ic_dump.proofs.StageLemmas.{left_of}
 use Rattle.ic_dump.specs.Passing.{other_ids, sheet_named}
 use Rattle.ic_dump.specs.Records.{AreFound, AreOthers}
 use Rattle.ic_dump.proofs.CellLemmas.{begins}
+use Rattle.ic_sheets.proofs.DanglingLemmas.{or_exchange as swapped}
 
 -- ---- a sheet more is found by its id
 
@@ -44,11 +45,6 @@ same_id a b = grind (arith, nat_tests)
 there_already : (id x : ℕ) (a b : Bool) → (nat_eq id x ≡ true → a ≡ true) → (a || b) ≡ (a || (nat_eq id x || b))
 there_already id x true b h = refl
 there_already id x false b h = elim (cases_Bool (nat_eq id x)) [ inl e ↦ let no = h e in cc | inr e ↦ rw e refl ]
-
-swapped : (a b c : Bool) → (a || (b || c)) ≡ (b || (a || c))
-swapped true true c = refl
-swapped true false c = refl
-swapped false b c = refl
 
 same_seen : (id x : ℕ) (seen : List ℕ) → among x seen ≡ true → nat_eq id x ≡ true → among id seen ≡ true
 same_seen id x seen there same = let is : id ≡ x = grind (arith, nat_tests) in ap (λ i. among i seen) is ∙ there

@@ -12,7 +12,7 @@ use Rattle.ic_machine.specs.Word as forms
 use Rattle.ic_machine.specs.subjects.Definitions as definitions
 use Rattle.ic_machine.specs.subjects.Sheets as sheets
 use Rattle.ic_machine.specs.subjects.Writing as writing
-use Rattle.ic_machine.proofs.LinesAgain.{texts_again, words_again}
+use Rattle.ic_machine.proofs.again.LinesAgain.{texts_again, words_again}
 use Rattle.ic_dump.specs.Lines.{body_line, cell_line, defining_line, deleting_line, inserting_line, naming_line, plain_body, scope_word}
 use Rattle.ic_dump.proofs.SaidAgain.{index_again, scope_again}
 

@@ -1,26 +1,23 @@
 -- The tables of all functions meet every condition, computed over their words, and begin with the sample tables.
-use Rattle.std.proofs.Common.{◌≡◌, ℕ, List, [], ◌∷◌, Bool, true, not, ◌&&◌, ◌||◌, Option, Some, None, bytes_eq, length, map, refl, ap, ap₂, sym, ◌∙◌}
-use Rattle.std.proofs.lemmas.Bool.Decides.{Decides-like, same_from_decides}
-use Rattle.std.proofs.lemmas.Slice.Eq.{bytes_eq-Decides}
-use Rattle.std.specs.List.{filter_map, list_all, list_any}
+use Rattle.std.proofs.Common.{◌≡◌, ℕ, List, true, Some, None, length, map, refl, sym, ◌∙◌}
+use Rattle.std.specs.List.{list_all}
 use Rattle.std.specs.Str.{chars}
 use Rattle.caseless.proofs.Computing.{caseless}
 use Rattle.ucd_derived.proofs.Computing.{ucd_derived}
-use Rattle.ic_laws.specs.Dialect.{has_error_shape, has_function_shape}
-use Rattle.ic_laws.specs.Name.{agrees, fold}
 use Rattle.ic_tables.specs.Formats.{has_dates, has_group, has_separators, has_symbol}
 use Rattle.ic_tables.specs.LanguageWords.{language_in}
 use Rattle.ic_tables.specs.LocaleWords.{sign}
 use Rattle.ic_tables.specs.LocaleWords as signs
 use Rattle.ic_tables.specs.Sample.{english_words, french_words, german_words, italian_words, sample, sample_locales, spanish_words}
-use Rattle.ic_tables.specs.Tables.{TableSet, are_different, first_failed, first_false, has_english_words, has_ids, has_numbers, has_text, has_zones, have_boolean_words, have_dates, have_error_words, have_function_words, have_groups, have_separators, have_symbols, tell_booleans, tell_errors}
+use Rattle.ic_tables.specs.Tables.{TableSet, first_failed, has_english_words, has_ids, has_numbers, has_zones, have_boolean_words, have_dates, have_error_words, have_function_words, have_groups, have_separators, have_symbols, tell_booleans, tell_errors}
 use Rattle.ic_tables.specs.WordList.{words_in}
-use Rattle.ic_tables.specs.Words.{error_words, has_boolean_words, has_error_words, has_function_words, has_stored_words, no_two_agree, numbers_functions, share_numbers, tells_booleans, tells_errors}
+use Rattle.ic_tables.specs.Words.{has_boolean_words, has_error_words, has_function_words, has_stored_words, numbers_functions, share_numbers, tells_booleans, tells_errors}
 use Rattle.ic_tables.specs.declared.language.FunctionKind.{FunctionKind}
 use Rattle.ic_tables.specs.declared.language.Language.{Language}
 use Rattle.ic_tables.specs.declared.locale.NamedLocale.{NamedLocale}
 use Rattle.ic_functions.specs.All.{all_functions, all_languages, first_functions, with_column}
 use Rattle.ic_functions.specs.Rows.{a_to_f_text, all_rows, first_text, g_to_z_text, kinds_in}
+use Rattle.ic_tables.proofs.SampleLemmas.{all_alike, functions_alike, functions_apart, errors_alike, errors_apart, all_pass, those_there}
 
 -- 1 to 3
 ids : has_ids all_functions ≡ true
@@ -47,37 +44,6 @@ booleans = refl
 booleans_told : tell_booleans all_functions.languages ≡ true
 unfolding all_functions with_column english_words spanish_words french_words german_words italian_words language_in words_in chars tells_booleans caseless
 booleans_told = refl
-
--- no two words agree where their foldings are different
-swapped : (a b : List ℕ) → bytes_eq a b ≡ bytes_eq b a
-swapped a b = same_from_decides _ _ (bytes_eq-Decides a b) (Decides-like _ sym sym (bytes_eq-Decides b a))
-
-among : (w : List ℕ) (ws : List (List ℕ)) → list_any (agrees w) ws ≡ has_text (map fold ws) (fold w)
-among w [] = refl
-among w (v ∷ vs) = ap₂ ◌||◌ (swapped (fold w) (fold v)) (among w vs)
-
-by_folding : (ws : List (List ℕ)) → no_two_agree ws ≡ are_different (map fold ws)
-by_folding [] = refl
-by_folding (w ∷ ws) = ap₂ (λ a b. not a && b) (among w ws) (by_folding ws)
-
--- 7 and 8, where each word is folded once
-all_alike : (p q : Language → Bool) → ((l : Language) → q l ≡ p l) → (ls : List Language) → list_all q ls ≡ list_all p ls
-all_alike p q e [] = refl
-all_alike p q e (l ∷ ls) = ap₂ ◌&&◌ (e l) (all_alike p q e ls)
-
-unfoldable functions_apart : Language → Bool
-functions_apart l = list_all has_function_shape l.functions.words && are_different (map fold l.functions.words)
-
-unfoldable errors_apart : Language → Bool
-errors_apart l = list_all has_error_shape (error_words l) && are_different (map fold (error_words l))
-
-functions_alike : (l : Language) → has_function_words l ≡ functions_apart l
-unfolding has_function_words functions_apart
-functions_alike l = ap (λ b. list_all has_function_shape l.functions.words && b) (by_folding l.functions.words)
-
-errors_alike : (l : Language) → has_error_words l ≡ errors_apart l
-unfolding has_error_words errors_apart
-errors_alike l = ap (λ b. list_all has_error_shape (error_words l) && b) (by_folding (error_words l))
 
 functions_computed : list_all functions_apart all_functions.languages ≡ true
 unfolding all_functions with_column english_words spanish_words french_words german_words italian_words language_in words_in chars all_rows first_text a_to_f_text g_to_z_text functions_apart caseless ucd_derived
@@ -115,10 +81,6 @@ dates : have_dates all_functions.locales ≡ true
 unfolding all_functions sample words_in chars has_dates sign signs.symbols signs.numbers signs.dates signs.formats_by_length signs.currency
 dates = refl
 
-all_pass : (a b c d e f g h i j k l m : Bool) → a ≡ true → b ≡ true → c ≡ true → d ≡ true → e ≡ true → f ≡ true → g ≡ true → h ≡ true → i ≡ true → j ≡ true → k ≡ true → l ≡ true → m ≡ true
-    → first_false 1 (a ∷ b ∷ c ∷ d ∷ e ∷ f ∷ g ∷ h ∷ i ∷ j ∷ k ∷ l ∷ m ∷ []) ≡ None
-all_pass a b c d e f g h i j k l m pa pb pc pd pe pf pg ph pi pj pk pl pm = rw (pa, pb, pc, pd, pe, pf, pg, ph, pi, pj, pk, pl, pm) refl
-
 pub all_well_formed : first_failed all_functions ≡ None
 all_well_formed =
     all_pass _ _ _ _ _ _ _ _ _ _ _ _ _ ids zones numbers stored booleans booleans_told functions errors errors_told separators groups symbols dates
@@ -131,14 +93,6 @@ begin_with_sample = refl
 pub counted : length all_functions.kinds ≡ 497
 unfolding all_functions all_rows first_text a_to_f_text g_to_z_text chars
 counted = refl
-
--- what is there is itself
-those_there : {A : Type 0} (xs : List A) (os : List (Option A)) → map Some xs ≡ os → filter_map (λ o. o) os ≡ xs
-those_there xs os e = rw (← e) (somes xs)
-  where
-    somes : {A : Type 0} (ys : List A) → filter_map (λ o. o) (map Some ys) ≡ ys
-    somes [] = refl
-    somes (y ∷ ys) = ap (λ zs. y ∷ zs) (somes ys)
 
 -- tables with these parts are those of all functions
 pub are_all : (ls : List Language) (ns : List NamedLocale) (zs : List (List ℕ)) (ks : List FunctionKind)

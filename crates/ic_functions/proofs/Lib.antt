@@ -1,3 +1,2 @@
 mod AllLemmas
-mod PlaceLemmas
 mod RowLemmas

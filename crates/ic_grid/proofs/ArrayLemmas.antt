@@ -1,5 +1,5 @@
 -- Arrays: where their formulas stand, and which cells are theirs.
-use Rattle.std.proofs.Common.{◌≡◌, ◌∙◌, ◌⊎◌, inl, inr, refl, sym, ap, subst, ℤ, Bool, true, false, cond, Option, Some, None, IsSome, is_some}
+use Rattle.std.proofs.Common.{◌≡◌, ◌∙◌, ◌⊎◌, inl, inr, refl, sym, ap, subst, ℤ, Bool, true, false, cond, Some, IsSome, is_some}
 use Rattle.std.proofs.lemmas.Bool.{both_ways}
 use Rattle.std.specs.FinMap as finite
 use Rattle.std.specs.Option.{option_and_then}
@@ -13,11 +13,7 @@ use Rattle.ic_grid.specs.Contents.{Contents, changed_where}
 use Rattle.ic_grid.specs.Prepare.{anchor_reset, released, unspilled}
 use Rattle.ic_grid.specs.Shape.{Holding, Shape, Empty, Value, Formula, Anchor, SpillOf, emptied, is_spill_of}
 use Rattle.ic_grid.specs.declared.block.Array.{Array}
-
--- what answers something has something to answer it for
-pub there : {A B : Type 0} (f : A → Option B) (o : Option A) (b : B) → option_and_then f o ≡ Some b → (x : A) × (o ≡ Some x) × (f x ≡ Some b)
-there f None b e = cc
-there f (Some x) b e = (x, refl, e)
+use Rattle.ic_laws.proofs.General.{chained as there}
 
 pub spill_shape : (a : Place) (s : Shape) → is_spill_of a s ≡ true → s ≡ SpillOf a
 spill_shape a Empty e = cc

@@ -4,13 +4,12 @@ use Rattle.std.proofs.lemmas.Bool.{and_parts, and_from, and_right as right_false
 use Rattle.std.proofs.lemmas.Bool.Decides.{Decides-int_eq}
 use Rattle.std.proofs.lemmas.Int.{ints}
 use Rattle.std.specs.Prelude.{int_le, int_lt, ◌+ℤ◌, ◌≤ℤ◌}
-use Rattle.std.specs.Ordering.{int_cmp, int_eq, is_eq, ordering_then}
-use Rattle.std.specs.declared.cmp.Ordering.{Ordering}
-use Rattle.std.specs.declared.cmp.Ordering.TheVariants.{Less, Equal, Greater}
+use Rattle.std.specs.Ordering.{int_cmp, int_eq}
 use Rattle.ic_laws.specs.Position.{is_column, is_row}
 use Rattle.ic_laws.specs.declared.reference.TheConstants.{LAST_COLUMN, LAST_ROW}
 use Rattle.ic_grid.specs.Block.{Place, blocks_meet, is_area, is_between, is_in_span, spans_meet, is_block_within, has_places, block_at, is_in_block, is_in_lines, is_in_sheet, is_span_within, same_place, whole_sheet}
 use Rattle.ic_grid.specs.declared.block.Block.{Block}
+use Rattle.ic_laws.proofs.General.{both_equal as by_parts}
 
 -- one more number
 pub between_more : (first last n : ℤ) → first ≤ℤ last → is_between first (last +ℤ pos 1) n ≡ (is_between first last n || int_eq n last)
@@ -26,11 +25,6 @@ between_none first n = grind (arith, ints)
 pub between_one : (first n : ℤ) → is_between first (first +ℤ pos 1) n ≡ int_eq n first
 unfolding is_between
 between_one first n = grind (arith, ints)
-
-by_parts : (r s : Ordering) → is_eq (ordering_then r s) ≡ (is_eq r && is_eq s)
-by_parts Less s = refl
-by_parts Equal s = refl
-by_parts Greater s = refl
 
 -- a place is another where both numbers are
 pub same_by_parts : (p q : Place) → same_place p q ≡ (int_eq p.0 q.0 && int_eq p.1 q.1)

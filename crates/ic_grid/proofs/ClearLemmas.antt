@@ -5,7 +5,6 @@ use Rattle.std.specs.FinMap as finite
 use Rattle.std.specs.Option.{option_and_then}
 use Rattle.ic_cells.specs.declared.cell.Cell.{Cell}
 use Rattle.ic_cells.specs.declared.cell.Cell.TheVariants as cells
-use Rattle.ic_grid.proofs.ArrayLemmas.{there}
 use Rattle.ic_grid.proofs.ContentsLemmas.{get-remade, remade_twice}
 use Rattle.ic_grid.proofs.LoosenLemmas.{Loosens, loosened_arrays, loosened_merges}
 use Rattle.ic_grid.proofs.PrepareLemmas.{loose_now}
@@ -23,6 +22,7 @@ use Rattle.ic_grid.specs.Shape.{celled, emptied, shape_of}
 use Rattle.ic_grid.specs.Whole.{IsGrid}
 use Rattle.ic_grid.specs.declared.block.Block.{Block}
 use Rattle.ic_grid.specs.declared.grid.Grid.{Grid}
+use Rattle.ic_laws.proofs.General.{chained as there}
 
 -- a cell that is released and then emptied is emptied
 emptied_same : (x : Cell) → emptied celled (loosened celled x) ≡ emptied celled x

@@ -3,18 +3,11 @@ use Rattle.std.proofs.Common.{◌≡◌, ◌∙◌, refl, sym, ap, Bool, true, f
 use Rattle.std.specs.Cmp.{eq_by_cmp_equiv}
 use Rattle.std.specs.FinMap as finite
 use Rattle.std.specs.Option.{option_and_then}
-use Rattle.std.specs.Ordering.{is_eq}
-use Rattle.std.specs.declared.cmp.Ordering.{Ordering}
-use Rattle.std.specs.declared.cmp.Ordering.TheVariants.{Less, Equal, Greater}
 use Rattle.ic_cells.specs.Maps.{place_cmp}
 use Rattle.ic_laws.proofs.core.CellWritten.{place_cmp_total, place_tied}
 use Rattle.ic_grid.specs.Block.{Place, same_place}
 use Rattle.ic_grid.specs.Contents.{Contents, remade, remade_entries, with_or_without}
-
-pub equal : (r : Ordering) → is_eq r ≡ true → r ≡ Equal
-equal Less e = cc
-equal Equal e = refl
-equal Greater e = cc
+use Rattle.ic_cells.proofs.ColumnLemmas.{tie as equal}
 
 -- two places that are told to be one are one, whichever is named first; and a place is itself
 pub same_turned : (p q : Place) → same_place p q ≡ same_place q p

@@ -18,11 +18,11 @@ use Rattle.std.specs.Prelude.{◌+ℤ◌, ◌≤ℤ◌, ◌<ℤ◌, nat_eq}
 use Rattle.std.specs.declared.cmp.Ordering.{Ordering}
 use Rattle.std.specs.declared.cmp.Ordering.TheVariants.{Equal}
 use Rattle.ic_cells.specs.declared.layout.Merge.{Merge}
-use Rattle.ic_grid.proofs.ContentsLemmas.{equal}
 use Rattle.ic_grid.proofs.WalkLemmas.{by_side, map_get}
 use Rattle.ic_grid.specs.Block.{blocks_meet}
 use Rattle.ic_grid.specs.HandedIn.{AreApart}
 use Rattle.ic_grid.specs.Merges.{meets_merge, merged_block}
+use Rattle.ic_cells.proofs.ColumnLemmas.{tie as equal}
 
 -- what is decided is decided of what says the same
 pub decided_as : {P Q : Type 0} (r : Bool) → Decides r P → (P → Q) → (Q → P) → Decides r Q

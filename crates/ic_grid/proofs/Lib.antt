@@ -5,7 +5,6 @@ pub mod ClearLemmas
 pub mod ContentsLemmas
 pub mod CrossLemmas
 pub mod HandedInLemmas
-pub mod KeyLemmas
 pub mod LoosenLemmas
 pub mod PaddedLemmas
 pub mod PassLemmas

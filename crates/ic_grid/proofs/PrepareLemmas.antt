@@ -5,7 +5,7 @@ use Rattle.std.specs.FinMap as finite
 use Rattle.std.specs.Option.{option_and_then}
 use Rattle.ic_cells.specs.declared.cell.Cell.{Cell}
 use Rattle.ic_cells.specs.declared.cell.Cell.TheVariants as cells
-use Rattle.ic_grid.proofs.ArrayLemmas.{anchor_at_of, anchored, array_there, place_in_area, there}
+use Rattle.ic_grid.proofs.ArrayLemmas.{anchor_at_of, anchored, array_there, place_in_area}
 use Rattle.ic_grid.proofs.BlockLemmas.{area_places, common, meets_at}
 use Rattle.ic_grid.proofs.BlockLemmas.{same_by_parts}
 use Rattle.ic_grid.proofs.ChangeLemmas.{first_from, right_is}
@@ -22,6 +22,7 @@ use Rattle.ic_grid.specs.Shape.{celled, shape_of}
 use Rattle.ic_grid.specs.Walk.{HasNoneIn, IsFirstIn, is_from, right_of}
 use Rattle.ic_grid.specs.declared.block.Array.{Array}
 use Rattle.ic_grid.specs.declared.block.Block.{Block}
+use Rattle.ic_laws.proofs.General.{chained as there}
 
 abbrev pub test_of : (Place → Bool) → Option Place → Bool
 test_of test None = false

@@ -47,7 +47,7 @@ span_last f n h = grind (arith, ints, h)
 sized : (w : ℤ) → int_le (pos 1) w ≡ true → pos 1 ≤ℤ w
 sized w e = grind (arith, ints, e)
 
-or_tail : (x y : Bool) → (x || y) ≡ false → y ≡ false
+pub or_tail : (x y : Bool) → (x || y) ≡ false → y ≡ false
 or_tail true y e = cc
 or_tail false y e = e
 

@@ -6,7 +6,6 @@ use Rattle.std.specs.Option.{option_and_then, option_map, unwrap_or}
 use Rattle.ic_cells.specs.declared.cell.ArrayKind.{ArrayKind}
 use Rattle.ic_cells.specs.declared.cell.Cell.{Cell}
 use Rattle.ic_cells.specs.declared.layout.Merge.{Merge}
-use Rattle.ic_grid.proofs.ArrayLemmas.{there}
 use Rattle.ic_grid.proofs.BlockLemmas.{first_in}
 use Rattle.ic_grid.proofs.ContentsLemmas.{get-remade, same_is, same_turned}
 use Rattle.ic_grid.proofs.LoosenLemmas.{Loosens, loosened_arrays, loosened_merges}
@@ -23,8 +22,9 @@ use Rattle.ic_grid.specs.Shape.{Anchor, Empty, Formula, Shape, SpillOf, Value, c
 use Rattle.ic_grid.specs.Spill.{is_free}
 use Rattle.ic_grid.specs.Value.{shape_at}
 use Rattle.ic_grid.specs.declared.block.Block.{Block}
+use Rattle.ic_laws.proofs.General.{chained as there}
 
-second : (x y : Bool) → (x || y) ≡ true → x ≡ false → y ≡ true
+pub second : (x y : Bool) → (x || y) ≡ true → x ≡ false → y ≡ true
 second true y e f = cc
 second false y e f = e
 

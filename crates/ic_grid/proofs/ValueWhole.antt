@@ -6,7 +6,7 @@ use Rattle.ic_cells.specs.declared.cell.Cell.{Cell}
 use Rattle.ic_cells.specs.declared.cell.Cell.TheVariants as cells
 use Rattle.ic_cells.specs.declared.layout.Merge.{Merge}
 use Rattle.ic_cells.specs.declared.value.FormulaValue.{FormulaValue}
-use Rattle.ic_grid.proofs.ArrayLemmas.{one_shape, spill_shape, there}
+use Rattle.ic_grid.proofs.ArrayLemmas.{one_shape, spill_shape}
 use Rattle.ic_grid.proofs.ContentsLemmas.{get-remade, same_is, same_turned}
 use Rattle.ic_grid.proofs.LoosenLemmas.{Loosens, loosened_arrays, loosened_merges}
 use Rattle.ic_grid.proofs.WriteLemmas.{IsLooseCell, either}
@@ -18,6 +18,7 @@ use Rattle.ic_grid.specs.Shape.{Anchor, Shape, SpillOf, celled, is_loose, is_spi
 use Rattle.ic_grid.specs.Value.{is_cse_anchor, shape_at, valued, valued_cell}
 use Rattle.ic_grid.specs.Whole.{IsGrid}
 use Rattle.ic_grid.specs.declared.grid.Grid.{Grid}
+use Rattle.ic_laws.proofs.General.{chained as there}
 
 -- cells are replaced by cells of the same shapes
 module _ (m after : Contents Cell) (old : (p : Place) (y : Cell) → finite.get after p ≡ Some y → (x : Cell) × (finite.get m p ≡ Some x) × (shape_of x ≡ shape_of y))

@@ -1,5 +1,5 @@
 -- Arrays that have their spills, and merges that lie apart, told entry by entry.
-use Rattle.std.proofs.Common.{◌≡◌, ◌∙◌, refl, sym, ap, subst, ℤ, Bool, true, false, not, ◌||◌, List, Option, Some, None, arith}
+use Rattle.std.proofs.Common.{◌≡◌, ◌∙◌, refl, sym, ap, subst, ℤ, Bool, true, false, not, List, Option, Some, None, arith}
 use Rattle.std.proofs.lemmas.Bool.{and_from, both_ways, or_left as or_first, or_right as or_second, not-true as negated}
 use Rattle.std.proofs.lemmas.Int.{ints}
 use Rattle.std.proofs.lemmas.List.Sums.{AllPass-from_list_all, list_all-from_AllPass}
@@ -10,7 +10,7 @@ use Rattle.std.specs.Option.{option_and_then, option_map, unwrap_or}
 use Rattle.std.specs.Prelude.{◌+ℤ◌, ◌≤ℤ◌, ◌<ℤ◌}
 use Rattle.ic_cells.specs.declared.cell.ArrayKind.{ArrayKind}
 use Rattle.ic_cells.specs.declared.layout.Merge.{Merge}
-use Rattle.ic_grid.proofs.ArrayLemmas.{array_there, spill_shape, there}
+use Rattle.ic_grid.proofs.ArrayLemmas.{array_there, spill_shape}
 use Rattle.ic_grid.proofs.ContentsLemmas.{same_itself}
 use Rattle.ic_grid.proofs.HandedInLemmas.{AreSo, decided_no, decided_yes, refused}
 use Rattle.ic_grid.proofs.WalkLemmas.{between_is, by_side, in_block}
@@ -24,10 +24,8 @@ use Rattle.ic_grid.specs.Shape.{Holding, Shape, Empty, Value, Formula, Anchor, S
 use Rattle.ic_grid.specs.Value.{shape_at}
 use Rattle.ic_grid.specs.declared.block.Array.{Array}
 use Rattle.ic_grid.specs.declared.block.Block.{Block}
-
-of_second : (a b : Bool) → (a || b) ≡ true → a ≡ false → b ≡ true
-of_second true b e f = cc
-of_second false b e f = e
+use Rattle.ic_grid.proofs.SpillWhole.{second as of_second}
+use Rattle.ic_laws.proofs.General.{chained as there}
 
 in_span : (first count n : ℤ) → first ≤ℤ n → n <ℤ (first +ℤ count) → is_in_span first count n ≡ true
 unfolding is_between

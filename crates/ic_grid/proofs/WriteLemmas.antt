@@ -8,7 +8,6 @@ use Rattle.ic_cells.specs.declared.cell.Cell.{Cell}
 use Rattle.ic_cells.specs.declared.layout.Merge.{Merge}
 use Rattle.ic_cells.specs.declared.cell.Cell.TheVariants as cells
 use Rattle.ic_laws.proofs.core.CellWritten.{place_cmp_total}
-use Rattle.ic_grid.proofs.ArrayLemmas.{there}
 use Rattle.ic_grid.proofs.ContentsLemmas.{both_made, get-remade, same_is, same_itself, same_turned}
 use Rattle.ic_grid.proofs.LoosenLemmas.{Loosens, loosened_arrays, loosened_merges}
 use Rattle.ic_grid.specs.Arrays.{anchor_at, anchor_of}
@@ -19,6 +18,7 @@ use Rattle.ic_grid.specs.Prepare.{anchor_reset, prepared, released, released_if,
 use Rattle.ic_grid.specs.Shape.{celled, is_loose, reset, shape_of}
 use Rattle.ic_grid.specs.Whole.{IsGrid}
 use Rattle.ic_grid.specs.declared.grid.Grid.{Grid}
+use Rattle.ic_laws.proofs.General.{some_there, chained as there}
 
 some_kept : {X : Type 0} (o : Option X) (g : X → X) → is_some (option_and_then (λ x. Some (g x)) o) ≡ is_some o
 some_kept None g = refl
@@ -32,19 +32,15 @@ pub none_there : {X : Type 0} (o : Option X) → is_some o ≡ false → o ≡ N
 none_there None e = refl
 none_there (Some x) e = cc
 
-pub some_there : {X : Type 0} (o : Option X) → is_some o ≡ true → (x : X) × (o ≡ Some x)
-some_there None e = cc
-some_there (Some x) e = (x, refl)
-
 pub either : (t : Bool) (x : Cell) → cond t x x ≡ x
 either true x = refl
 either false x = refl
 
-first_of_two : {A : Type 0} (t : Bool) (x y : A) → t ≡ true → cond t x y ≡ x
+pub first_of_two : {A : Type 0} (t : Bool) (x y : A) → t ≡ true → cond t x y ≡ x
 first_of_two true x y e = refl
 first_of_two false x y e = cc
 
-second_of_two : {A : Type 0} (t : Bool) (x y : A) → t ≡ false → cond t x y ≡ y
+pub second_of_two : {A : Type 0} (t : Bool) (x y : A) → t ≡ false → cond t x y ≡ y
 second_of_two true x y e = cc
 second_of_two false x y e = refl
 

@@ -155,7 +155,7 @@ fn look_in(cells: &PlaceMap<Cell>, block: &Block, from: (i32, i32), wanted: Want
 
 /// The first place of a block from one on, by rows, with a cell at which a walk stops. Where no cell stands in a row of the
 /// sheet, the row costs nothing; where few stand beside the block, a step for each. Where nothing may stand in the columns of
-/// the block, the rows aren't looked at; this is asked in its first two rows alone, since a walk comes further only behind a
+/// the block, the rows aren't looked at; this is asked in its first two rows alone, since a walk comes further mostly behind a
 /// cell of the block.
 fn next_wanted(
     cells: &PlaceMap<Cell>,

@@ -28,7 +28,7 @@ use Rattle.ic_machine.specs.Refusal.{InvalidColumn, InvalidRow, InvalidSheet, Of
 use Rattle.ic_machine.specs.Reply.{Field as Told, text_field}
 use Rattle.ic_machine.specs.subjects.Notation.{GetLanguage, GetLocale, SetLanguage, SetLocale, get_language_step, get_locale_step, notation_step, set_language_step, set_locale_step}
 use Rattle.ic_machine.specs.subjects.Reading.{IsEmptyCell, empty_step, reading_step}
-use Rattle.ic_machine.proofs.InsertedStays.{none_holds}
+use Rattle.ic_machine.proofs.valid.InsertedStays.{none_holds}
 use Rattle.ic_parts.proofs.ExtendLemmas.{none_past, some_within}
 use Rattle.ic_workbooks.proofs.HandedInLemmas.{read_back}
 use Rattle.ic_workbooks.proofs.TakenAgain.{taken_again}
@@ -47,6 +47,7 @@ use Rattle.ic_import.specs.Typed.{Blocked, TellsBlocked, Typable, typed}
 use Rattle.ic_import.specs.declared.error.ImportError.{ImportError}
 use Rattle.ic_import.specs.declared.error.ImportError.TheVariants as errors
 use Rattle.ic_import.specs.declared.places.FieldNumber.{FieldNumber}
+use Rattle.ic_tables.proofs.LiteralLemmas.{comma as comma_chars}
 
 -- The request. ----
 
@@ -166,10 +167,6 @@ module _ {T : Type 0} (fields : T → List Told) (now : ModelState) (sheet : ℕ
   sheet_stands value h =
       let found = found_done (slice_get (whole_of now.book).sheets sheet) _ (whole_of now.book, fields value) h.done in
       ap not (some_within (whole_of now.book).sheets sheet found.0 found.1)
-
-comma_chars : chars (codes ",") ≡ codes ","
-unfolding chars
-comma_chars = refl
 
 -- what parts lists in a locale, and in the one that was found
 pub separator_told : (l : Locale) (is_comma : Bool) → has_separators l ≡ true → is_comma ≡ bytes_eq l.numbers.symbols.decimal (chars (codes ",")) → list_of is_comma ≡ list_separator l

@@ -7,7 +7,7 @@ use Rattle.ic_laws.specs.Position.{is_column, is_row}
 use Rattle.ic_input.specs.declared.input.Typed.{Typed}
 use Rattle.ic_input.specs.declared.input.Typed.TheVariants as kinds
 use Rattle.ic_grid.specs.Shape.{is_loose}
-use Rattle.ic_machine.proofs.ValidLemmas.{all_at}
+use Rattle.ic_machine.proofs.valid.ValidLemmas.{all_at}
 use Rattle.ic_machine.specs.Book.{Book, Sheet, style_number_at, unless_refused}
 use Rattle.ic_machine.specs.Content.{shape_of}
 use Rattle.ic_machine.specs.InForce.{typed_in}

@@ -14,9 +14,9 @@ use Rattle.ic_input.specs.Number.{IsUnsigned, fraction_of, fraction_text}
 use Rattle.ic_input.specs.Typed.{IsNumber, typed}
 use Rattle.ic_input.specs.declared.input.Typed.TheVariants as kinds
 use Rattle.ic_input.proofs.LocaleLemmas.{decimal_digit}
-use Rattle.ic_input.proofs.NumberSteps.{run-digits}
 use Rattle.ic_input.proofs.TypedLaws.{number_is_typed}
 use Rattle.ic_input.proofs.TypedSteps.{TellsTexts}
+use Rattle.ic_laws.proofs.AmountReading.{run_of-is_digits as run-digits}
 
 -- What the units are that digits write.
 record WritesUnits (whole count fraction places units : ℕ) : Type 0 where

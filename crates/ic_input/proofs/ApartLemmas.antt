@@ -3,7 +3,8 @@ use Rattle.std.proofs.Common.{◌≡◌, ℕ, ◌<◌, List, [], ◌∷◌, ◌+
 use Rattle.std.proofs.lemmas.Str.{chars_past_char, encode_ascii}
 use Rattle.std.specs.Char.{to_ascii_lowercase}
 use Rattle.ic_laws.specs.Name.{agrees, fold}
-use Rattle.ic_tables.proofs.CompareLemmas.{fold-cons, full_fold-ascii}
+use Rattle.ic_tables.proofs.CompareLemmas.{full_fold-ascii}
+use Rattle.ic_laws.proofs.FoldLaws.{fold-cons}
 
 -- a text whose first byte is ASCII folds to the lower case of it, and then as the rest of the text
 low_first : (bytes : List ℕ) (b : ℕ) → IsUtf8 bytes → slice_get bytes 0 ≡ Some b → b < 128

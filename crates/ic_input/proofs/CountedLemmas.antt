@@ -1,5 +1,5 @@
 -- The day of a number is that many days after 30 December 1899.
-use Rattle.std.proofs.Common.{◌≡◌, ℕ, zero, suc, ℤ, pos, ◌+◌, ◌<◌, ◌≤◌, ◌+ℤ◌, List, true, false, nat_lt, if◌then◌else◌, refl, sym, ap, ◌∙◌, arith, rules}
+use Rattle.std.proofs.Common.{◌≡◌, ℕ, zero, suc, ℤ, pos, ◌+◌, ◌≤◌, ◌+ℤ◌, List, true, false, nat_lt, if◌then◌else◌, refl, sym, ap, ◌∙◌, arith, rules}
 use Rattle.jiff_core.specs.Calendar.{day_count, days_from_civil, days_in_month, days_in_year, days_of_months, days_of_years}
 use Rattle.jiff_core.proofs.CalendarLemmas.{day_count-day, day_count-day_of_year, day_count-next_month, day_count-next_year, days_from_civil-day_count, days_in_month_bounds, days_of_months_all}
 use Rattle.jiff_core.proofs.SignedLemmas.{signed_arith}
@@ -8,6 +8,7 @@ use Rattle.ic_input.specs.Counted.{CivilDay, CountedIsNumbered, NumberedIsCounte
 use Rattle.ic_input.specs.Date.{IsDay, IsShownDay, date_text, last_day}
 use Rattle.ic_input.proofs.DateSteps.{day-from_parts, from_epoch}
 use Rattle.ic_input.proofs.DayLemmas.{same_day}
+use Rattle.ic_laws.proofs.SmallestLaws.{below_from_true as less}
 
 -- the days before a year
 abbrev pub before : ℕ → ℕ
@@ -19,10 +20,6 @@ next_year year = day_count-next_year (pos year) (pos (year + 1)) (omega (arith, 
 -- the end of a year
 pub year_end : (year : ℕ) → day_count (pos year) 13 1 ≡ before year + days_in_year (pos year)
 year_end year = omega (arith, day_count-day_of_year (pos year) 13 1 (omega arith), days_of_months_all (pos year))
-
--- what the test of a lesser number tells
-pub less : (m k : ℕ) → nat_lt m k ≡ true → m < k
-less m k e = search (rules, arith)
 
 pub not_less : (m k : ℕ) → nat_lt m k ≡ false → k ≤ m
 not_less m k e = search (rules, arith)

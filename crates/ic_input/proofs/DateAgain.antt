@@ -20,9 +20,9 @@ use Rattle.ic_input.specs.declared.input.Typed.TheVariants as kinds
 use Rattle.ic_input.proofs.DateSteps.{day-parts}
 use Rattle.ic_input.proofs.DayLemmas.{year_bound}
 use Rattle.ic_input.proofs.GroupLemmas.{nonempty}
-use Rattle.ic_input.proofs.NumberLaws.{digits-append}
 use Rattle.ic_input.proofs.TypedLaws.{number_is_typed}
 use Rattle.ic_input.proofs.TypedSteps.{TellsTexts}
+use Rattle.ic_laws.proofs.AmountReading.{digits_both as digits-append}
 
 -- What digits write a number.
 record Writes (digits : List ℕ) (n : ℕ) : Type 0 where

@@ -14,7 +14,7 @@ use Rattle.ic_input.specs.Date.{IsDay, IsTypedDate, day_number, day_of, field_at
 use Rattle.ic_input.specs.declared.date.Field.{Field}
 use Rattle.ic_input.specs.declared.date.Fields.{Fields}
 use Rattle.ic_input.proofs.LocaleLemmas.{nothing-is}
-use Rattle.ic_input.proofs.NumberLaws.{digits-append, digits-split}
+use Rattle.ic_laws.proofs.AmountReading.{digits_both as digits-append, digits_apart as digits-split}
 
 -- What is read of up to so many digits.
 record ReadsField (most : ℕ) (digits tail : List ℕ) : Type 0 where

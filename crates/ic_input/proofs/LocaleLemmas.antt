@@ -12,7 +12,8 @@ use Rattle.ic_tables.specs.declared.language.Language.{Language}
 use Rattle.ic_tables.specs.declared.locale.Locale.{Locale}
 use Rattle.ic_input.specs.Convention.{euro, first_or, group_of, is_currency, is_dollar_or_euro, is_nothing}
 use Rattle.ic_tables.specs.Formats.{decimal_separator}
-use Rattle.ic_input.proofs.RunSteps.{can_stand, not-false}
+use Rattle.ic_input.proofs.RunSteps.{can_stand}
+use Rattle.ic_laws.proofs.tokens.Characters.{not_true as not-false}
 
 -- What the signs of a locale are.
 pub record TellsSigns (l : Locale) : Type 0 where

@@ -17,9 +17,10 @@ use Rattle.ic_input.specs.Group.{in_threes, past_threes, threes}
 use Rattle.ic_input.specs.Number.{IsUnsigned, IsWhole, code_for, decimals_at, fraction_of, fraction_text, from_digits, is_first_group, most_decimals, past_decimals, stands_before, unsigned_number, with_decimals}
 use Rattle.ic_input.specs.declared.number.Number.{Number}
 use Rattle.ic_input.proofs.LocaleLemmas.{TellsSigns, currency_all, decimal_apart, decimal_cases, decimal_digit, nothing-is}
-use Rattle.ic_input.proofs.NumberLaws.{digits-split, value-append}
 use Rattle.ic_input.proofs.RunSteps.{all_weaker, can_stand, run_until}
 use Rattle.ic_input.proofs.TripleLemmas.{IsTriples, ReadsGroups, groups_read, in_threes-groups, separated, split}
+use Rattle.ic_laws.proofs.tokens.Characters.{not_true as not-false}
+use Rattle.ic_laws.proofs.AmountReading.{digits_apart as digits-split, after-append as value-append}
 
 -- no digit and no decimal separator stands in a symbol
 symbol_before : (l : Locale) (c : ℕ) → may_stand_in_symbol c ≡ true → stands_before (decimal_separator l) c ≡ true
@@ -46,10 +47,6 @@ after_all l signs [] (c ∷ cs) h =
           rw (eqb-true c percent p.0, nothing-is cs p.1) (and_from _ _ (percent_before l) refl)
       | inr e ↦ let is : is_currency l (c ∷ cs) ≡ true = rw e at h in currency_before l signs (c ∷ cs) is
     ]
-
-not-false : (b : Bool) → not b ≡ true → b ≡ false
-not-false true h = ap not h
-not-false false h = refl
 
 -- What no character is that no digits begin with.
 record StandsBefore (d c : ℕ) : Type 0 where

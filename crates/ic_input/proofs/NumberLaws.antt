@@ -1,9 +1,8 @@
 -- What the function of typed numbers answers is in the relation, and what is in the relation it answers.
 use Rattle.std.proofs.Common.{◌≡◌, ℕ, pos, ◌+◌, ◌*◌, ◌-◌, ◌^◌, ◌<◌, ◌≤◌, List, [], ◌∷◌, ◌++◌, Bool, true, not, ◌&&◌, ◌==◌, nat_le, nat_lt, length, Option, Some, None, refl, sym, ap, subst, ◌∙◌, append_assoc, inl, inr, arith}
-use Rattle.std.specs.Char.{digit_value}
 use Rattle.std.specs.Str.{all_ascii_digits}
 use Rattle.std.specs.Str.Parse.{digits_value, digits_value_after}
-use Rattle.std.proofs.lemmas.Bool.{and_from, and_parts, cases_Bool, eqb-true, leb-true, ltb-true}
+use Rattle.std.proofs.lemmas.Bool.{and_parts, cases_Bool, eqb-true, leb-true, ltb-true}
 use Rattle.std.proofs.lemmas.Bool.Decides.{nat_tests}
 use Rattle.std.proofs.lemmas.List.{length-append}
 use Rattle.ic_laws.specs.Scan.{is_digit, past_run, run_of}
@@ -15,23 +14,9 @@ use Rattle.ic_tables.specs.Formats.{decimal_separator}
 use Rattle.ic_input.specs.Group.{past_threes, threes}
 use Rattle.ic_input.specs.Number.{IsUnsigned, IsWhole, code_for, decimals_at, fraction_of, fraction_text, from_digits, is_first_group, most_decimals, past_decimals, stands_before, units_if, unsigned_number, with_after, with_code, with_groups}
 use Rattle.ic_input.specs.declared.number.Number.{Number}
-use Rattle.ic_input.proofs.NumberSteps.{decimals-digits, run-digits}
+use Rattle.ic_input.proofs.NumberSteps.{decimals-digits}
 use Rattle.ic_input.proofs.TripleLemmas.{IsTriples, are_triples, in_threes-groups, separated}
-
--- digits of two lists
-pub digits-append : (a b : List ℕ) → all_ascii_digits a ≡ true → all_ascii_digits b ≡ true → all_ascii_digits (a ++ b) ≡ true
-digits-append [] b h k = k
-digits-append (c ∷ cs) b h k = let p = and_parts (is_digit c) _ h in and_from _ _ p.0 (digits-append cs b p.1 k)
-
-pub digits-split : (a b : List ℕ) → all_ascii_digits (a ++ b) ≡ true → (all_ascii_digits a ≡ true) × (all_ascii_digits b ≡ true)
-digits-split [] b h = (refl, h)
-digits-split (c ∷ cs) b h =
-    let p = and_parts (is_digit c) _ h in
-    let r = digits-split cs b p.1 in (and_from _ _ p.0 r.0, r.1)
-
-pub value-append : (n : ℕ) (a b : List ℕ) → digits_value_after 10 n (a ++ b) ≡ digits_value_after 10 (digits_value_after 10 n a) b
-value-append n [] b = refl
-value-append n (c ∷ cs) b = value-append (n * 10 + digit_value c) cs b
+use Rattle.ic_laws.proofs.AmountReading.{digits_both as digits-append, after-append as value-append, run_of-is_digits as run-digits}
 
 -- ---- what the function answers is in the relation
 

@@ -18,11 +18,7 @@ use Rattle.ic_input.specs.Number.{decimals_at, begins_digits, from_digits, is_fi
 use Rattle.ic_input.specs.declared.digits.Digits.{Digits}
 use Rattle.ic_input.specs.declared.digits.Groups.{Groups}
 use Rattle.ic_input.proofs.DigitLemmas.{capped, within-is}
-
--- a run of digits has digits alone
-pub run-digits : (text : List ℕ) → all_ascii_digits (run_of is_digit text) ≡ true
-run-digits [] = refl
-run-digits (c ∷ cs) = elim (cases_Bool (is_digit c)) [ inl e ↦ rw (e, e) (run-digits cs) | inr e ↦ rw e refl ]
+use Rattle.ic_laws.proofs.AmountReading.{run_of-is_digits as run-digits}
 
 pub decimals-digits : (separator : ℕ) (text : List ℕ) → all_ascii_digits (decimals_at separator text) ≡ true
 decimals-digits separator [] = refl

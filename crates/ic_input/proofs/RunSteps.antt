@@ -1,10 +1,11 @@
 -- Where a run of characters ends, and which characters a symbol has.
-use Rattle.std.proofs.Common.{◌≡◌, ℕ, ◌-◌, List, [], ◌∷◌, ◌++◌, Bool, true, false, not, ◌==◌, codes, refl, ap}
+use Rattle.std.proofs.Common.{◌≡◌, ℕ, ◌-◌, List, [], ◌∷◌, ◌++◌, Bool, true, false, ◌==◌, codes, refl, ap}
 use Rattle.std.specs.List.{list_all, list_any}
 use Rattle.std.proofs.lemmas.Bool.{and_from, and_parts, or_parts}
 use Rattle.ic_laws.specs.Scan.{first_is, is_blank, is_digit, past_run, run_of}
 use Rattle.ic_tables.specs.Formats.{may_stand_in_symbol}
 use Rattle.ic_input.specs.Code.{has_up_to, is_symbol}
+use Rattle.ic_laws.proofs.tokens.Characters.{not_true as not-false}
 
 -- a run ends where another character follows
 pub run_until : (p : ℕ → Bool) (front tail : List ℕ) → list_all p front ≡ true → first_is p tail ≡ false → (run_of p (front ++ tail) ≡ front) × (past_run p (front ++ tail) ≡ tail)
@@ -32,10 +33,6 @@ pub record CanStand (c : ℕ) : Type 0 where
   pub minus : (c == 45) ≡ false
   pub equals : (c == 61) ≡ false
   pub quote : (c == 39) ≡ false
-
-pub not-false : (b : Bool) → not b ≡ true → b ≡ false
-not-false true h = ap not h
-not-false false h = refl
 
 pub can_stand : (c : ℕ) → may_stand_in_symbol c ≡ true → CanStand c
 can_stand c h =

@@ -19,8 +19,8 @@ use Rattle.ic_input.specs.Number.{IsUnsigned, fraction_text, stands_before, from
 use Rattle.ic_input.specs.declared.number.Number.{Number}
 use Rattle.ic_input.proofs.LocaleLemmas.{TellsSigns, currency_all, decimal_cases, tells_signs}
 use Rattle.ic_input.proofs.NumberComplete.{body_first, unsigned_complete}
-use Rattle.ic_input.proofs.NumberLaws.{digits-split}
 use Rattle.ic_input.proofs.RunSteps.{can_stand, run_until}
+use Rattle.ic_laws.proofs.AmountReading.{digits_apart as digits-split}
 
 -- What a locale of tables tells of typed texts.
 pub record TellsTexts (l : Locale) : Type 0 where

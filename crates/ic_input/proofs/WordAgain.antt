@@ -1,5 +1,5 @@
 -- The word of a boolean and that of an error value are typed as them; and so are texts, quoted texts and formulas.
-use Rattle.std.proofs.Common.{◌≡◌, ◌≢◌, ℕ, zero, suc, List, [], ◌∷◌, Bool, true, false, not, ◌==◌, Option, Some, None, bytes_eq, cond, find, refl, sym, ap, subst, ◌∙◌, inl, inr}
+use Rattle.std.proofs.Common.{◌≡◌, ◌≢◌, ℕ, List, [], ◌∷◌, Bool, true, false, not, ◌==◌, Option, Some, None, bytes_eq, cond, find, refl, sym, ap, subst, ◌∙◌, inl, inr}
 use Rattle.std.specs.List.{list_all, list_any, slice_get}
 use Rattle.std.specs.Option.{option_or}
 use Rattle.std.proofs.lemmas.Bool.{and_parts, cases_Bool, eq-eqb, eqb-true, not-true, or_parts, true≢false}
@@ -13,7 +13,7 @@ use Rattle.ic_laws.specs.Name.{Agree, fold, is_variable_form}
 use Rattle.ic_laws.specs.Scan.{begins_word, first_is, is_digit}
 use Rattle.ic_laws.specs.declared.tree.Error.{Error}
 use Rattle.ic_tables.proofs.WellFormed.{good_words, language_among}
-use Rattle.ic_tables.proofs.WordLemmas.{finds, found_at, passes_at}
+use Rattle.ic_tables.proofs.WordLemmas.{finds, found_at, passes_at, none_at}
 use Rattle.ic_tables.specs.Formats.{begins_boolean, decimal_separator, has_symbol, is_symbol}
 use Rattle.ic_tables.specs.Tables.{HasGoodFormats, HasGoodWords, TableSet}
 use Rattle.ic_tables.specs.Words.{boolean_words, error_words, first_agreeing, has_boolean_words, has_error_words, no_two_agree, tells_booleans}
@@ -110,11 +110,6 @@ none_found p q (y ∷ ys) x h none =
     here : (b : Bool) → cond b (Some y) (find q ys) ≡ Some x → p y ≡ false → (find q ys ≡ Some x → p x ≡ false) → p x ≡ false
     here true e first others = let same : y ≡ x = cc in subst (λ z. p z ≡ false) same first
     here false e first others = others e
-
-none_at : {X : Type 0} (p : X → Bool) (xs : List X) (n : ℕ) (x : X) → list_any p xs ≡ false → slice_get xs n ≡ Some x → p x ≡ false
-none_at p [] n x none e = absurd (cc)
-none_at p (y ∷ ys) zero x none e = let is : y ≡ x = cc in subst (λ z. p z ≡ false) is (or_parts (p y) (list_any p ys) none).0
-none_at p (y ∷ ys) (suc n) x none e = none_at p ys n x (or_parts (p y) (list_any p ys) none).1 e
 
 module _ (tables : TableSet) (l : Locale) (language beside : Language) (are : AreOfTables tables l language beside) where
   words : HasGoodWords tables language

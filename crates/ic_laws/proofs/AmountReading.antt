@@ -14,7 +14,7 @@ use Rattle.ic_laws.proofs.AmountTexts.{digits_value_after-weight, run_of-front, 
 use Rattle.ic_laws.proofs.RunLemmas.{run_and_rest}
 
 -- the number that digits and more digits write
-after-append : (n : ℕ) (a b : List ℕ) → digits_value_after 10 n (a ++ b) ≡ digits_value_after 10 (digits_value_after 10 n a) b
+pub after-append : (n : ℕ) (a b : List ℕ) → digits_value_after 10 n (a ++ b) ≡ digits_value_after 10 (digits_value_after 10 n a) b
 after-append n [] b = refl
 after-append n (c ∷ cs) b = after-append (n * 10 + digit_value c) cs b
 
@@ -72,18 +72,18 @@ units_of-tells whole whole_count fraction n e =
     ]
 
 -- digits and digits are digits, and the other way round
-digits_both : (a b : List ℕ) → all_ascii_digits a ≡ true → all_ascii_digits b ≡ true → all_ascii_digits (a ++ b) ≡ true
+pub digits_both : (a b : List ℕ) → all_ascii_digits a ≡ true → all_ascii_digits b ≡ true → all_ascii_digits (a ++ b) ≡ true
 digits_both [] b da db = db
 digits_both (c ∷ cs) b da db = let parts = and_parts (is_digit c) (all_ascii_digits cs) da in rw (parts.0, digits_both cs b parts.1 db) refl
 
-digits_apart : (a b : List ℕ) → all_ascii_digits (a ++ b) ≡ true → (all_ascii_digits a ≡ true) × (all_ascii_digits b ≡ true)
+pub digits_apart : (a b : List ℕ) → all_ascii_digits (a ++ b) ≡ true → (all_ascii_digits a ≡ true) × (all_ascii_digits b ≡ true)
 digits_apart [] b d = (refl, d)
 digits_apart (c ∷ cs) b d =
     let parts = and_parts (is_digit c) (all_ascii_digits (cs ++ b)) d in
     let rest = digits_apart cs b parts.1 in
     (rw (parts.0, rest.0) refl, rest.1)
 
-run_of-is_digits : (text : List ℕ) → all_ascii_digits (run_of is_digit text) ≡ true
+pub run_of-is_digits : (text : List ℕ) → all_ascii_digits (run_of is_digit text) ≡ true
 run_of-is_digits [] = refl
 run_of-is_digits (c ∷ cs) = elim (cases_Bool (is_digit c)) [ inl d ↦ rw (d, d, run_of-is_digits cs) refl | inr n ↦ rw n refl ]
 

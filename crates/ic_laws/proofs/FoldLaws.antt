@@ -27,7 +27,7 @@ apart : (c : ℕ) → is_unlisted (full_folding c) ≡ false → is_apart c (ful
 unfolding tables points_ok full_folding_stepped
 apart c moved = Stepped-at_points full_folding full_folding_stepped is_unlisted is_apart refl c moved
 
-clash : (b : Bool) → b ≡ true → not b ≡ true → ⊥
+pub clash : (b : Bool) → b ≡ true → not b ≡ true → ⊥
 clash true e f = cc
 clash false e f = cc
 

@@ -7,6 +7,7 @@ pub mod CoreLemmas
 pub mod FoldLaws
 pub mod FormLemmas
 mod FormulaExamples
+pub mod General
 pub mod LetterLemmas
 mod LineExamples
 mod LocalExamples

@@ -18,7 +18,7 @@ use Rattle.ic_laws.proofs.FoldLaws.{is_fixed, same_from_Agree}
 below_true : (a b : ℕ) → a < b → nat_lt a b ≡ true
 below_true a b h = grind (arith, nat_tests)
 
-below_from_true : (a b : ℕ) → nat_lt a b ≡ true → a < b
+pub below_from_true : (a b : ℕ) → nat_lt a b ≡ true → a < b
 below_from_true a b h = grind (arith, nat_tests)
 
 word-below : (kind : WordKind) (n : ℕ) → n < count kind → marked_word kind n ≡ Some (marked kind n)

@@ -7,7 +7,6 @@ ghost use Rattle.ic_laws.specs.Scene.{KeysDiffer, SheetsDiffer};
 ghost use Rattle.ic_laws.specs.Token.{Lexes, Token};
 ghost use Rattle.ic_laws.specs.Tree.{Spelled};
 ghost use Rattle.ic_laws.specs.Yield.{yield};
-ghost use Rattle.ic_laws.specs.declared.dialect.WordKind.TheVariants as kinds;
 ghost use Rattle.ic_laws.specs.declared.scene.Scene.{Scene};
 ghost use Rattle.ic_laws.specs.declared.tree.Formula.TheVariants as formulas;
 

@@ -1,5 +1,5 @@
 -- Words and the texts that they spell.
-use Rattle.std.proofs.Common.{◌≡◌, ◌≢◌, ◌↔◌, ◌⊎◌, ℕ, ◌+◌, ◌≤◌, ◌||◌, arith, encode_utf8, encode_utf8_all, List, [], ◌∷◌, ◌++◌, drop, get_or, length, take, true, false, ◌==◌, Option, Some, None, IsSome, IsNone, is_some, option_map, option_and_then, refl, sym, subst, ◌∙◌, ap, inl, inr, append_assoc}
+use Rattle.std.proofs.Common.{◌≡◌, ◌≢◌, ◌↔◌, ℕ, ◌+◌, ◌≤◌, ◌||◌, arith, encode_utf8, encode_utf8_all, List, [], ◌∷◌, ◌++◌, drop, get_or, length, take, true, false, ◌==◌, Option, Some, None, IsSome, IsNone, is_some, option_map, option_and_then, refl, sym, subst, ◌∙◌, ap, inl, inr, append_assoc}
 use lib.Utf8.{encode, scalar, scalars}
 use Rattle.std.specs.List.{flat_map, join_by, list_any}
 use Rattle.std.specs.Str.{IsCharBoundary, IsUtf8, chars}
@@ -15,6 +15,7 @@ use Rattle.memchr.specs.Find.{is_byte3}
 use Rattle.ic_laws.specs.Lines.{escape_of, escape_meaning, escaped, unescaped}
 use Rattle.ic_lines.specs.Escapes.{GoesOnWrong, HasWrongEscape, is_escaped}
 use Rattle.ic_lines.specs.Reading.{IsFirstLineFeed, has_line_feed}
+use Rattle.ic_laws.proofs.parsing.ListFuelLemmas.{option_cases as none_or_some}
 
 -- a character that is no backslash stands for itself
 unescaped-plain : (c : ℕ) (cs : List ℕ) → (c == 92) ≡ false → unescaped (c ∷ cs) ≡ option_map (λ t. c ∷ t) (unescaped cs)
@@ -85,10 +86,6 @@ some_after c (Some t) s = refl
 none_after : (c : ℕ) (o : Option (List ℕ)) → option_map (λ t. c ∷ t) o ≡ None → o ≡ None
 none_after c None e = refl
 none_after c (Some t) e = cc
-
-none_or_some : {A : Type 0} (o : Option A) → (o ≡ None) ⊎ ((m : A) × (o ≡ Some m))
-none_or_some None = inl refl
-none_or_some (Some m) = inr (m, refl)
 
 -- an escape, and what stands after it
 unescaped-escape : (c d : ℕ) (cs : List ℕ) (o : Option ℕ) → c ≡ 92 → escape_meaning d ≡ o → unescaped (c ∷ d ∷ cs) ≡ option_and_then (λ m. option_map (λ t. m ∷ t) (unescaped cs)) o

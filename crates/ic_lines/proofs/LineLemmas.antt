@@ -1,5 +1,5 @@
 -- Bytes and the lines in them.
-use Rattle.std.proofs.Common.{◌≡◌, ◌≢◌, ℕ, ◌+◌, List, [], ◌∷◌, ◌++◌, take, drop, get_or, Bool, true, false, cond, ◌==◌, ◌||◌, Option, Some, None, MatchOption, MatchResult, Result, Ok, Err, Bor, Contains, chars, IsUtf8, ◌⊎◌, refl, sym, ◌∙◌, ap, inl, inr, arith, append_assoc, length-drop}
+use Rattle.std.proofs.Common.{◌≡◌, ◌≢◌, ℕ, ◌+◌, List, [], ◌∷◌, ◌++◌, take, drop, get_or, Bool, true, false, cond, ◌==◌, Option, Some, None, MatchOption, MatchResult, Result, Ok, Err, Bor, Contains, chars, IsUtf8, ◌⊎◌, refl, sym, ◌∙◌, ap, inl, inr, arith, append_assoc, length-drop}
 use Rattle.std.specs.List.{list_any, onto_first}
 use Rattle.std.specs.Result.{result_unwrap_or}
 use Rattle.std.specs.Str.{is_utf8}
@@ -13,10 +13,7 @@ use Rattle.memchr.specs.Find.{IsFirstByte, is_byte}
 use Rattle.ic_laws.specs.Lines.{line_text, lines_of}
 use Rattle.ic_lines.specs.Reading.{has_line_feed, IsFirstLineFeed, without_return}
 use Rattle.ic_lines.proofs.TextLemmas.{byte-before, byte-cut, byte-searched, line_feed-same}
-
-neither : (a b : Bool) → (a || b) ≡ false → (a ≡ false) × (b ≡ false)
-neither true b h = cc
-neither false b h = (refl, h)
+use Rattle.ic_laws.proofs.printing.Signs.{or_neither as neither}
 
 -- two pieces with no line feed
 pub no_line_feed-append : (xs ys : List ℕ) → has_line_feed xs ≡ false → has_line_feed ys ≡ false → has_line_feed (xs ++ ys) ≡ false

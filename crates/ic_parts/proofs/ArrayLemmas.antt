@@ -21,11 +21,11 @@ use Rattle.ic_grid.specs.declared.block.Block.{Block}
 use Rattle.ic_grid.specs.declared.error.GridError.{GridError}
 use Rattle.ic_grid.specs.declared.error.GridError.TheVariants as grid_errors
 use Rattle.ic_grid.specs.declared.grid.Grid.{Grid}
-use Rattle.ic_machine.proofs.AlikeGrid.{array_at-seen, entries-seen, get-seen}
-use Rattle.ic_machine.proofs.AlikeLemmas.{cells_are_contents}
-use Rattle.ic_machine.proofs.ArraysStay.{arrays_stay}
-use Rattle.ic_machine.proofs.HaveLemmas.{IsPassedOn, all_cleared, all_spilled, all_valued}
-use Rattle.ic_machine.proofs.SeenLemmas.{IsSeen, blocking_same, cleared_seen, shape_same, spilled_seen, valued_seen}
+use Rattle.ic_machine.proofs.contents.AlikeGrid.{array_at-seen, entries-seen, get-seen}
+use Rattle.ic_machine.proofs.contents.AlikeLemmas.{cells_are_contents}
+use Rattle.ic_machine.proofs.valid.ArraysStay.{arrays_stay}
+use Rattle.ic_machine.proofs.contents.HaveLemmas.{IsPassedOn, all_cleared, all_spilled, all_valued}
+use Rattle.ic_machine.proofs.contents.SeenLemmas.{IsSeen, blocking_same, cleared_seen, shape_same, spilled_seen, valued_seen}
 use Rattle.ic_machine.specs.Alike.{seen_by}
 use Rattle.ic_machine.specs.Book as machine
 use Rattle.ic_machine.specs.Book.{Stepped, on_grid, put_in, unless, with_sheet}

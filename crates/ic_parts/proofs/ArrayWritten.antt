@@ -25,12 +25,12 @@ use Rattle.ic_grid.specs.declared.block.Block.{Block}
 use Rattle.ic_grid.specs.declared.error.GridError.{GridError}
 use Rattle.ic_grid.specs.declared.error.GridError.TheVariants as grid_errors
 use Rattle.ic_grid.specs.declared.grid.Grid.{Grid}
-use Rattle.ic_machine.proofs.AlikeGrid.{insert-seen, style_at-seen}
-use Rattle.ic_machine.proofs.AlikeLemmas.{cells_are_contents}
-use Rattle.ic_machine.proofs.ArraysStay.{arrays_stay}
-use Rattle.ic_machine.proofs.HaveLemmas.{AllHave, all_loosened, all_put}
-use Rattle.ic_machine.proofs.PlacedLemmas.{placed_index}
-use Rattle.ic_machine.proofs.SeenLemmas.{released_seen}
+use Rattle.ic_machine.proofs.contents.AlikeGrid.{insert-seen, style_at-seen}
+use Rattle.ic_machine.proofs.contents.AlikeLemmas.{cells_are_contents}
+use Rattle.ic_machine.proofs.valid.ArraysStay.{arrays_stay}
+use Rattle.ic_machine.proofs.contents.HaveLemmas.{AllHave, all_loosened, all_put}
+use Rattle.ic_machine.proofs.contents.PlacedLemmas.{placed_index}
+use Rattle.ic_machine.proofs.contents.SeenLemmas.{released_seen}
 use Rattle.ic_machine.specs.Alike.{seen_by}
 use Rattle.ic_machine.specs.Book as machine
 use Rattle.ic_machine.specs.Book.{Stepped, found_or, unless}

@@ -17,8 +17,8 @@ use Rattle.ic_cells.specs.declared.cell.Cell.{Cell}
 use Rattle.ic_cells.specs.declared.layout.ColumnProps.{ColumnProps}
 use Rattle.ic_cells.specs.declared.layout.RowProps.{RowProps}
 use Rattle.ic_grid.specs.Style.{first_style}
-use Rattle.ic_machine.proofs.AlikeGrid.{get-seen}
-use Rattle.ic_machine.proofs.ValidLemmas.{all_at}
+use Rattle.ic_machine.proofs.contents.AlikeGrid.{get-seen}
+use Rattle.ic_machine.proofs.valid.ValidLemmas.{all_at}
 use Rattle.ic_machine.specs.Book.{style_number_at}
 use Rattle.ic_machine.specs.Content.{Content, content_of, held}
 use Rattle.ic_machine.specs.Valid.{HasLayout, HasLines}

@@ -12,14 +12,14 @@ use Rattle.ic_laws.specs.Keeping.{kept_in_body, same_keys, with_kept}
 use Rattle.ic_laws.specs.Notations.{Notations}
 use Rattle.ic_laws.specs.declared.scene.Scene.{Scene}
 use Rattle.ic_cells.specs.declared.cell.Cell.{Cell}
-use Rattle.ic_machine.proofs.AlikeGrid.{entries-empty}
-use Rattle.ic_machine.proofs.CoreLemmas.{insert-map}
+use Rattle.ic_machine.proofs.contents.AlikeGrid.{entries-empty}
 use Rattle.ic_machine.specs.Binds.{with_sheet_among}
 use Rattle.ic_sheets.specs.Sheet.{Sheet, cells_of, empty_grid, kept_pool, plain_tab, sheet_core}
 use Rattle.ic_parts.specs.Book.{Book, core_of, scene_in}
 use Rattle.ic_parts.specs.Change.{with_added_definition, with_added_sheet, with_inserted_sheet, with_kept_pools, with_removed_definition, with_removed_sheet, with_renamed_sheet}
 use Rattle.ic_sheets.proofs.PoolLemmas.{sheet_cores-kept}
-pub use Rattle.ic_machine.proofs.CoreLemmas.{moved-map}
+pub use Rattle.ic_machine.proofs.as_core.CoreLemmas.{moved-map}
+use Rattle.ic_laws.proofs.General.{insert-map}
 
 -- a change of the sheets or the definitions of a book, over which all formulas are kept as these notations say
 abbrev pub changed_in : Notations → (Book → Book) → Book → Book

@@ -16,13 +16,13 @@ use Rattle.ic_laws.specs.ValidCore.{IsKeptFormula, IsPooled, IsValidCore}
 use Rattle.ic_laws.specs.declared.scene.Scene.{Scene}
 use Rattle.ic_laws.specs.declared.tree.Formula.{Formula}
 use Rattle.ic_grid.specs.declared.grid.Grid.{Grid}
-use Rattle.ic_machine.proofs.AlikeGrid.{get-seen}
-use Rattle.ic_machine.proofs.CoreValid as machine_core
-use Rattle.ic_machine.proofs.InsertedStays.{insert_stays}
-use Rattle.ic_machine.proofs.NamesStay.{definitions_stay, sheets_stay}
-use Rattle.ic_machine.proofs.SheetsStay.{all_inserted, all_moved}
-use Rattle.ic_machine.proofs.SubjectsStay.{notation_stays}
-use Rattle.ic_machine.proofs.ValidLemmas.{HoldsOf, holds_at, same_styles}
+use Rattle.ic_machine.proofs.contents.AlikeGrid.{get-seen}
+use Rattle.ic_machine.proofs.as_core.CoreValid as machine_core
+use Rattle.ic_machine.proofs.valid.InsertedStays.{insert_stays}
+use Rattle.ic_machine.proofs.valid.NamesStay.{definitions_stay, sheets_stay}
+use Rattle.ic_machine.proofs.valid.SheetsStay.{all_inserted, all_moved}
+use Rattle.ic_machine.proofs.valid.SubjectsStay.{notation_stays}
+use Rattle.ic_machine.proofs.valid.ValidLemmas.{HoldsOf, holds_at, same_styles}
 use Rattle.ic_machine.specs.Book as machine
 use Rattle.ic_machine.specs.Book.{as_core, unless}
 use Rattle.ic_machine.specs.Changed as changed

@@ -30,8 +30,8 @@ use Rattle.ic_cells.specs.declared.value.CellValue.{CellValue}
 use Rattle.ic_cells.specs.declared.value.CellValue.TheVariants as values
 use Rattle.ic_grid.specs.Contents.{Contents}
 use Rattle.ic_grid.specs.Shape.{is_empty, shape_of}
-use Rattle.ic_machine.proofs.AlikeGrid.{entries-seen, get-seen}
-use Rattle.ic_machine.proofs.AlikeLemmas.{cells_are_contents}
+use Rattle.ic_machine.proofs.contents.AlikeGrid.{entries-seen, get-seen}
+use Rattle.ic_machine.proofs.contents.AlikeLemmas.{cells_are_contents}
 use Rattle.ic_machine.specs.Book as machine
 use Rattle.ic_machine.specs.Content as contents
 use Rattle.ic_machine.specs.Content.{Content, content_of}

@@ -20,7 +20,7 @@ use Rattle.ic_laws.specs.Notations.{AreNotations, Notations}
 use Rattle.ic_laws.specs.Scene.{key_of, same_key}
 use Rattle.ic_laws.specs.ValidCore.{IsValidCore}
 use Rattle.ic_laws.specs.declared.scene.Scene.{Scene}
-use Rattle.ic_machine.proofs.InsertedBinds.{insert_naming}
+use Rattle.ic_machine.proofs.bound.InsertedBinds.{insert_naming}
 use Rattle.ic_machine.specs.Binds.{with_sheet_among}
 use Rattle.ic_sheets.specs.Rewriting.{changed_pool}
 use Rattle.ic_sheets.specs.Sheet.{IsValidPool, Sheet, empty_grid, kept_pool, plain_tab, sheet_core}

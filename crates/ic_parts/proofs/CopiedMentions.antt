@@ -21,8 +21,8 @@ use Rattle.ic_laws.specs.declared.tree.NameMention.{NameMention}
 use Rattle.ic_laws.specs.declared.tree.NameMention.TheVariants as names
 use Rattle.ic_laws.specs.declared.tree.SheetMention.{SheetMention}
 use Rattle.ic_laws.specs.declared.tree.SheetMention.TheVariants as sheets
-use Rattle.ic_machine.proofs.CopiedBinds.{or_none, unfound}
-use Rattle.ic_machine.proofs.ValidLemmas.{all_of}
+use Rattle.ic_machine.proofs.bound.CopiedBinds.{or_none, unfound}
+use Rattle.ic_machine.proofs.valid.ValidLemmas.{all_of}
 
 -- the ids of the sheets of a core
 pub ids_there : (id : ℕ) (ss : List Sheet) → has_id id (map mentioned ss) ≡ list_any (nat_eq id) (map (λ (s : Sheet). s.id) ss)

@@ -1,12 +1,11 @@
 -- Copies: of a finite map, entry by entry, and of a list of styles.
-use Rattle.std.proofs.Common.{◌≡◌, ◌+◌, ◌<◌, ◌++◌, ◌&&◌, ◌⊎◌, inl, inr, ℕ, zero, suc, List, [], ◌∷◌, Bool, true, false, not, cond, map, Option, Some, None, is_some, option_map, refl, sym, ap, ap₂, ◌∙◌, ◌≤◌, length, get_or, take, arith}
+use Rattle.std.proofs.Common.{◌≡◌, ◌+◌, ◌<◌, ◌++◌, ◌⊎◌, inl, inr, ℕ, zero, suc, List, [], ◌∷◌, Bool, true, false, not, cond, map, Option, Some, None, is_some, option_map, refl, sym, ap, ap₂, ◌∙◌, ◌≤◌, length, get_or, take, arith}
 use Rattle.std.proofs.lemmas.Bool.{and_parts}
 use Rattle.std.proofs.lemmas.List.{map-append, take_more}
 use Rattle.std.proofs.lemmas.Map.Keys.{IsDistinct-from_sorted}
 use Rattle.std.proofs.lemmas.Map.Lookups.{CmpEqualImpliesEq}
 use Rattle.std.proofs.lemmas.Map.Made.{update_all_none}
 use Rattle.std.proofs.lemmas.Option.{get_or_from_slice_get, slice_get_cases, slice_get_within}
-use Rattle.std.proofs.lemmas.Slice.Eq.{bytes_eq-Decides}
 use Rattle.std.specs.BTreeMap as tree
 use Rattle.std.specs.BTreeMap.{BTreeMap}
 use Rattle.std.specs.Cmp.{IsTotalOrder, eq_by_cmp_equiv}
@@ -16,11 +15,10 @@ use Rattle.std.specs.Map.{update_all}
 use Rattle.std.specs.Ordering.{eq_by_cmp}
 use Rattle.std.specs.declared.cmp.Ordering.{Ordering}
 use Rattle.ic_cells.specs.Listed.{IsPlaced, are_apart, place_in}
-use Rattle.ic_cells.specs.Style.{AreStyles, is_color, is_flag, is_style}
-use Rattle.ic_cells.specs.declared.style.Color.{Color}
-use Rattle.ic_cells.specs.declared.style.Color.TheVariants as colors
+use Rattle.ic_cells.specs.Style.{AreStyles, is_style}
 use Rattle.ic_cells.specs.declared.style.Style.{Style}
 use Rattle.ic_grid.proofs.WalkLemmas.{map_get}
+use Rattle.ic_cells.proofs.StyleLemmas.{style_again as style_itself}
 
 -- a finite map with these entries put in, one after another
 pub inserted : {K X : Type 0} {R : K → K → Ordering} → FinMap R X → List (K × X) → FinMap R X
@@ -88,18 +86,6 @@ taken x (y ∷ ys) (suc count) zero e = (omega arith, e)
 taken x (y ∷ ys) (suc count) (suc at) e = let rest = taken x ys count at e in (omega arith, rest.1)
 
 -- styles ----
-
-flag_itself : (b : Bool) → is_flag b b ≡ true
-flag_itself true = refl
-flag_itself false = refl
-
-color_itself : (c : Color) → is_color c c ≡ true
-color_itself colors.None = refl
-color_itself (colors.Rgb text) = (bytes_eq-Decides text text).1 refl
-
-style_itself : (s : Style) → is_style s s ≡ true
-unfolding is_style
-style_itself s = ap₂ ◌&&◌ (ap₂ ◌&&◌ (ap₂ ◌&&◌ ((bytes_eq-Decides s.num_fmt s.num_fmt).1 refl) (flag_itself s.quote_prefix)) (flag_itself s.bold)) (color_itself s.fill)
 
 -- the next of a list of styles comes to those before it
 pub next_style : (styles before after : List Style) (at number : ℕ) (s : Style) → AreStyles styles → slice_get styles at ≡ Some s → before ≡ take at styles → IsPlaced s number before after → after ≡ take (at + 1) styles

@@ -26,7 +26,7 @@ use Rattle.ic_cells.specs.Cell as cells
 use Rattle.ic_cells.specs.Value.{shown_text}
 use Rattle.ic_cells.specs.declared.cell.Cell.{Cell}
 use Rattle.ic_input.specs.Typed.{formula_of}
-use Rattle.ic_machine.proofs.AlikeGrid.{get-seen}
+use Rattle.ic_machine.proofs.contents.AlikeGrid.{get-seen}
 use Rattle.ic_machine.specs.Book as machine
 use Rattle.ic_machine.specs.Book.{Stepped, content_at, lacks_sheet, unless}
 use Rattle.ic_machine.specs.Content as contents

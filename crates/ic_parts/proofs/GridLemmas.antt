@@ -15,8 +15,6 @@ pub use Rattle.std.proofs.Math.Seq.{take-length as take_all}
 use Rattle.ic_cells.specs.Style.{default_style, first_place, is_color, is_flag, is_style, style_at, with_format, with_quote_prefix}
 use Rattle.ic_cells.specs.declared.cell.Cell.{Cell}
 use Rattle.ic_cells.specs.declared.cell.Cell.TheVariants as cells
-use Rattle.ic_cells.specs.declared.style.Color.{Color}
-use Rattle.ic_cells.specs.declared.style.Color.TheVariants as colors
 use Rattle.ic_cells.specs.declared.style.Style.{Style}
 use Rattle.ic_cells.specs.Cell.{style_of}
 use Rattle.ic_grid.proofs.WriteLemmas.{after_release, released_at}
@@ -34,10 +32,10 @@ use Rattle.ic_grid.specs.declared.error.GridError.{GridError}
 use Rattle.ic_grid.specs.declared.error.GridError.TheVariants as grid_errors
 use Rattle.ic_grid.specs.declared.grid.Grid.{Grid}
 use Rattle.ic_input.specs.Code.{is_date_code}
-use Rattle.ic_machine.proofs.AlikeGrid.{arrays_held, get-seen, inside_held, merges_held, style_at-seen}
-use Rattle.ic_machine.proofs.AlikeLemmas.{cells_are_contents}
-use Rattle.ic_machine.proofs.ValidLemmas.{HoldsOf, holds_at}
-use Rattle.ic_machine.proofs.WritingSteps.{number_below}
+use Rattle.ic_machine.proofs.contents.AlikeGrid.{arrays_held, get-seen, inside_held, merges_held, style_at-seen}
+use Rattle.ic_machine.proofs.contents.AlikeLemmas.{cells_are_contents}
+use Rattle.ic_machine.proofs.valid.ValidLemmas.{HoldsOf, holds_at}
+use Rattle.ic_machine.proofs.valid.WritingSteps.{number_below}
 use Rattle.ic_machine.specs.Book as machine
 use Rattle.ic_machine.specs.Content.{content_of, held}
 use Rattle.ic_machine.specs.Refusal.{ArrayPart, InvalidColumn, InvalidRow, MergedPart, Refusal, first_refusal}
@@ -52,6 +50,7 @@ use Rattle.ic_parts.specs.Refused.{TellsOnly, of_grid, refusal_of}
 use Rattle.ic_parts.specs.Values.{keeps_code, value_causes}
 use Rattle.ic_parts.specs.Written.{cell_causes}
 use Rattle.ic_parts.specs.declared.error.BookError.{BookError}
+use Rattle.ic_cells.proofs.StyleLemmas.{flag_again as flag_itself, color_again as color_itself, style_again as style_itself}
 
 -- What holds of each cell, and of an empty one, and of a formula's that is reset, holds after a write. ----
 
@@ -185,14 +184,6 @@ value_told grid place row column = ap₂ (λ (row column : Bool). first_refusal 
 abbrev restyled_by : (Style → Style) → Bool → List Style → ℕ → Numbered
 restyled_by change same styles number = if same then record { number = number; styles = styles } else numbered (change (style_at styles number)) styles
 
-flag_itself : (b : Bool) → is_flag b b ≡ true
-flag_itself true = refl
-flag_itself false = refl
-
-color_itself : (c : Color) → is_color c c ≡ true
-color_itself colors.None = refl
-color_itself (colors.Rgb t) = (bytes_eq-Decides t t).1 refl
-
 is_same : (quoted : Bool) (s : Style) → s.quote_prefix ≡ quoted → is_style (with_quote_prefix quoted s) s ≡ true
 unfolding is_style
 is_same quoted s e =
@@ -215,10 +206,6 @@ pub quote_new : (quoted : Bool) (styles : List Style) (number : ℕ) → (style_
 quote_new quoted styles number e = ap (λ b. restyled_by (with_quote_prefix quoted) b styles number) (is_other quoted (style_at styles number) e)
 
 -- where nothing changes, and where a code and the flag do ----
-
-style_itself : (s : Style) → is_style s s ≡ true
-unfolding is_style
-style_itself s = and_from _ _ (and_from _ _ (and_from _ _ ((bytes_eq-Decides s.num_fmt s.num_fmt).1 refl) (flag_itself s.quote_prefix)) (flag_itself s.bold)) (color_itself s.fill)
 
 pub nothing_changed : (styles : List Style) (number : ℕ) → restyled (λ s. s) number styles ≡ record { number = number; styles = styles }
 nothing_changed styles number = ap (λ b. restyled_by (λ s. s) b styles number) (style_itself (style_at styles number))

@@ -12,7 +12,7 @@ use Rattle.ic_machine.specs.Book as machine
 use Rattle.ic_machine.specs.Book.{with_sheet}
 use Rattle.ic_machine.specs.Content.{content_of}
 use Rattle.ic_machine.specs.Alike.{seen_by}
-use Rattle.ic_machine.proofs.ValidLemmas.{AreLines, HoldsOf, lines_held, lines_of, same_styles}
+use Rattle.ic_machine.proofs.valid.ValidLemmas.{AreLines, HoldsOf, lines_held, lines_of, same_styles}
 use Rattle.ic_machine.specs.Valid as valid_machine
 use Rattle.ic_sheets.specs.Sheet.{Sheet}
 use Rattle.ic_parts.specs.Book.{Book, HasString, HasStrings, IsValidBook, notations_in, whole_grid}

@@ -14,7 +14,7 @@ use Rattle.ic_laws.proofs.core.KeptBook.{mentioned}
 use Rattle.ic_tables.specs.Tables.{TableSet, language_of, locale_of}
 use Rattle.ic_tables.specs.declared.language.Language.{Language}
 use Rattle.ic_tables.specs.declared.locale.NamedLocale.{NamedLocale}
-use Rattle.ic_tables.proofs.WellFormed.{language_found, locale_found}
+use Rattle.ic_tables.proofs.WellFormed.{language_found}
 use Rattle.ic_tree.proofs.NotationLaws.{knows_language_is, knows_locale_is}
 use Rattle.ic_tree.specs.Notations.{notations_of}
 use Rattle.ic_sheets.proofs.RewritingLemmas.{read_there}
@@ -178,9 +178,6 @@ whole_at f whole zero (w ∷ ws) s at = ap Some (whole w)
 whole_at f whole (suc i) (w ∷ ws) s at = whole_at f whole i ws s at
 
 -- ---- the notation
-
-pub locale_is : (tables : TableSet) (id : List ℕ) (l : NamedLocale) → locale_of tables id ≡ Some l → (l.id ≡ id) × (locale_of tables l.id ≡ Some l)
-locale_is tables id l found = locale_found tables id l found
 
 pub language_is : (tables : TableSet) (id : List ℕ) (l : Language) → language_of tables id ≡ Some l → (l.code ≡ id) × (language_of tables l.code ≡ Some l)
 language_is tables id l found = language_found tables id l found

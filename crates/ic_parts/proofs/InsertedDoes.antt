@@ -6,7 +6,7 @@ use Rattle.std.specs.List.{list_any}
 use Rattle.std.specs.Prelude.{is_none, nat_eq, unwrap_or}
 use Rattle.ic_laws.specs.CoreBook.{CoreBook, fresh_id, has_sheet, ids_of}
 use Rattle.ic_laws.specs.Name.{is_sheet_name}
-use Rattle.ic_machine.proofs.InsertedStays.{fresh_fits, none_holds}
+use Rattle.ic_machine.proofs.valid.InsertedStays.{fresh_fits, none_holds}
 use Rattle.ic_machine.specs.Book as machine
 use Rattle.ic_machine.specs.Book.{Stepped, unless}
 use Rattle.ic_machine.specs.Changed.{changed_by}

@@ -15,7 +15,7 @@ use Rattle.ic_cells.specs.Cell.{cell_formula_index}
 use Rattle.ic_cells.specs.Maps.{place_cmp}
 use Rattle.ic_cells.specs.declared.cell.Cell.{Cell}
 use Rattle.ic_grid.specs.declared.grid.Grid.{Grid}
-use Rattle.ic_machine.proofs.CoreValid.{each_found}
+use Rattle.ic_machine.proofs.as_core.CoreValid.{each_found}
 use Rattle.ic_sheets.proofs.PoolLemmas.{IsBelow}
 use Rattle.ic_sheets.specs.Sheet.{HasIndexes, cells_of, formula_in}
 use Rattle.ic_parts.proofs.CellReads.{same_entries}

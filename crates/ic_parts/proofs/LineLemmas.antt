@@ -8,7 +8,7 @@ use Rattle.ic_cells.specs.declared.layout.RowProps.{RowProps}
 use Rattle.ic_grid.specs.Lines.{column_at, column_without_style, plain_column, plain_row, row_at, row_without_style, without_column_style, without_row_style}
 use Rattle.ic_grid.specs.declared.grid.Grid.{Grid}
 use Rattle.ic_machine.specs.Valid.{IsStyleNumber}
-use Rattle.ic_machine.proofs.ValidLemmas.{column_put, row_put}
+use Rattle.ic_machine.proofs.valid.ValidLemmas.{column_put, row_put}
 use Rattle.ic_parts.specs.Parts.{StaysLaidOut}
 use Rattle.ic_parts.proofs.GridPartLemmas.{laid_lines, lines_laid, same_laid_out}
 

@@ -22,7 +22,7 @@ use Rattle.ic_cells.specs.declared.cell.Cell.TheVariants as cells
 use Rattle.ic_grid.proofs.ContentsLemmas.{same_itself}
 use Rattle.ic_grid.specs.Block.{same_place}
 use Rattle.ic_grid.specs.Whole.{IsGrid}
-use Rattle.ic_machine.proofs.AlikeGrid.{entries-seen, get-seen}
+use Rattle.ic_machine.proofs.contents.AlikeGrid.{entries-seen, get-seen}
 use Rattle.ic_machine.specs.Book as machine
 use Rattle.ic_machine.specs.Content.{Content, content_of}
 use Rattle.ic_machine.specs.Reply.{Field, text_field}
@@ -33,7 +33,7 @@ use Rattle.ic_parts.specs.Markup.{last_of, plain_shown, row_behind, row_shown, s
 use Rattle.ic_parts.specs.Shown.{StandsIn}
 use Rattle.ic_parts.specs.Whole.{whole_of, whole_sheet}
 use Rattle.ic_parts.proofs.WholeLemmas.{whole_core}
-use Rattle.ic_grid.proofs.WriteLemmas.{some_there}
+use Rattle.ic_laws.proofs.General.{some_there}
 
 module _ (now : ModelState) (valid : IsValidBook now.book) (s : Sheet) (stands : StandsIn s now.book) (place : CellPlace) where
   abbrev whole : machine.Book

@@ -15,7 +15,7 @@ use Rattle.ic_laws.specs.declared.tree.Formula.{Formula}
 use Rattle.ic_cells.specs.Cell.{cell_formula_index}
 use Rattle.ic_cells.specs.declared.cell.Cell.{Cell}
 use Rattle.ic_grid.specs.Contents.{Contents}
-use Rattle.ic_machine.proofs.FormulaLemmas.{find-made}
+use Rattle.ic_machine.proofs.as_core.FormulaLemmas.{find-made}
 use Rattle.ic_sheets.specs.Sheet.{cells_of, formula_in, sheet_core, sheet_of}
 use Rattle.ic_sheets.specs.declared.sheet.Sheet.{Sheet as HeldSheet}
 use Rattle.ic_parts.specs.Scene.{named}

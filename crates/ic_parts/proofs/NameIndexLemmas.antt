@@ -18,9 +18,7 @@ use Rattle.ic_laws.specs.Scene.{key_of}
 use Rattle.ic_laws.specs.declared.scene.SheetName.{SheetName}
 use Rattle.ic_laws.specs.declared.tree.NameKey.{NameKey}
 use Rattle.ic_definitions.specs.Named.{key_in}
-use Rattle.ic_pool.proofs.KeyLemmas.{bytes_eq-flip}
 use Rattle.ic_pool.proofs.PlaceLemmas.{inserted_passes}
-use Rattle.ic_sheets.proofs.InsertLemmas.{inserted_seen}
 use Rattle.ic_sheets.proofs.KeptLemmas.{finds_same}
 use Rattle.ic_sheets.proofs.SearchLemmas.{ids, names}
 use Rattle.ic_sheets.specs.Rewriting.{changed_pool, sheets_of}
@@ -33,6 +31,7 @@ use Rattle.ic_parts.specs.SheetNames.{KnowsNumbers}
 use Rattle.ic_parts.specs.declared.names.NameIndex.{NameIndex}
 use Rattle.ic_parts.specs.declared.taken_numbers.TakenNumbers.{TakenNumbers}
 use Rattle.ic_parts.proofs.TakenLemmas.{knows_more}
+use Rattle.ic_laws.proofs.General.{bytes_eq-flip, insert-map as inserted_seen}
 
 -- ---- other sheets of the same names and ids
 

@@ -14,8 +14,8 @@ use Rattle.ic_laws.proofs.FoldLaws.{fold-fixed, fold_append}
 use Rattle.ic_laws.proofs.binding.SceneLemmas.{agree_from}
 use Rattle.ic_laws.specs.Name.{agrees, fold}
 use Rattle.ic_machine.specs.subjects.Sheets.{copy_name, suffix_of}
-use Rattle.ic_machine.proofs.CopyNames.{digits_apart, opens, suffix_fixed, tail_is}
-use Rattle.ic_machine.proofs.NewNames.{digits_fixed}
+use Rattle.ic_machine.proofs.bound.CopyNames.{digits_apart, opens, suffix_fixed, tail_is}
+use Rattle.ic_machine.proofs.bound.NewNames.{digits_fixed}
 
 -- ---- digits
 

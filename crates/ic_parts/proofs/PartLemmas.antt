@@ -6,7 +6,7 @@ use Rattle.ic_laws.proofs.core.Lists.{all_updated}
 use Rattle.ic_laws.specs.CoreStep.{updated_at}
 use Rattle.ic_machine.specs.Book as machine
 use Rattle.ic_machine.specs.Book.{Stepped, found_or, on_sheet, put_in, with_sheet}
-use Rattle.ic_machine.proofs.ValidLemmas.{HoldsOf, holds_at, same_styles}
+use Rattle.ic_machine.proofs.valid.ValidLemmas.{HoldsOf, holds_at, same_styles}
 use Rattle.ic_machine.specs.Refusal.{InvalidSheet, Refusal}
 use Rattle.ic_machine.specs.Valid as valid_machine
 use Rattle.ic_machine.specs.Valid.{IsFrozen}

@@ -1,17 +1,15 @@
 -- Cells that texts name are those that the machine finds.
 use Rattle.std.proofs.Common.{◌≡◌, ℕ, ℤ, pos, ◌<◌, ◌≤◌, ◌^◌, List, [], ◌∷◌, drop, cond, Bool, true, false, ◌==◌, Option, Some, None, option_map, Result, Ok, Err, OkIff, IsAscii, IsUtf8, chars, refl, sym, ap, subst, ◌∙◌, if◌then◌else◌, arith, inl, inr}
 use Rattle.std.specs.Prelude.{flat_map, is_none, option_and_then, option_to_list}
-use Rattle.std.specs.Char.{is_ascii_digit}
 use Rattle.std.specs.List.{slice_get}
 use Rattle.std.specs.Option.{option_map_or}
 use Rattle.std.specs.Result.{result_ok}
 use Rattle.std.specs.Str.{all_ascii_digits}
 use Rattle.std.specs.Str.Parse.{IsNumeral, ParsesUnsigned, digits_value, without_leading_plus}
-use Rattle.std.proofs.lemmas.Bool.{and_parts, cases_Bool, leb-true}
+use Rattle.std.proofs.lemmas.Bool.{cases_Bool, leb-true}
 use Rattle.std.proofs.lemmas.Bool.Decides.{eqb_tells, leb_tells, nat_tests}
 use Rattle.std.proofs.lemmas.Str.{chars-IsAscii, encodes-IsAscii, encodes-chars}
 use Rattle.std.proofs.lemmas.Str.Ascii.{IsAscii-cons, IsAscii-nil}
-use Rattle.std.proofs.lemmas.Str.Parse.{IsNumeralModel, numerals_by_value, tells_all_ascii_digits}
 use Rattle.ic_laws.specs.Command.{number_said}
 use Rattle.ic_laws.specs.Position.{is_row}
 use Rattle.std.proofs.lemmas.Option.{slice_get-map}
@@ -49,16 +47,10 @@ use Rattle.ic_parts.specs.Whole.{whole_of, whole_sheet}
 use Rattle.ic_parts.proofs.ModelLemmas.{position-map}
 use Rattle.ic_parts.proofs.ReadLemmas.{sheet_found}
 use Rattle.ic_parts.proofs.WholeLemmas.{whole_core}
+use Rattle.ic_laws.proofs.AmountLemmas.{numerals}
+use Rattle.ic_laws.proofs.General.{digits_ascii, no_number}
 
 -- digits and a plus are ASCII ----
-
-digit_below : (c : ℕ) → is_ascii_digit c ≡ true → c < 128
-digit_below c h = grind (arith, nat_tests)
-
-digits_ascii : (cs : List ℕ) → all_ascii_digits cs ≡ true → IsAscii cs
-digits_ascii [] h = IsAscii-nil
-digits_ascii (c ∷ cs) h =
-    let p = and_parts (is_ascii_digit c) (all_ascii_digits cs) h in IsAscii-cons c cs (digit_below c p.0) (digits_ascii cs p.1)
 
 said_ascii : (cs : List ℕ) → all_ascii_digits (without_plus cs) ≡ true → IsAscii cs
 said_ascii [] h = IsAscii-nil
@@ -67,10 +59,6 @@ said_ascii (c ∷ cs) h =
       | inl p ↦ IsAscii-cons c cs (omega (arith, p.1)) (digits_ascii cs (sym (ap (λ b. all_ascii_digits (if b then cs else c ∷ cs)) p.0) ∙ h))
       | inr p ↦ digits_ascii (c ∷ cs) (sym (ap (λ b. all_ascii_digits (if b then cs else c ∷ cs)) p.0) ∙ h)
     ]
-
-no_number : (cs : List ℕ) → all_ascii_digits cs ≡ false → number_said cs ≡ None
-no_number [] h = absurd (cc)
-no_number (c ∷ cs) h = rw h refl
 
 -- a row is the same by its bytes
 row_by_bytes : (bytes : List ℕ) → IsUtf8 bytes → parsed_row (chars bytes) ≡ parsed_row bytes
@@ -86,9 +74,6 @@ row_by_bytes bytes u =
     ]
 
 -- what is read of digits ----
-
-numerals : IsNumeralModel (λ ds. all_ascii_digits ds ≡ true) (digits_value 10)
-numerals = numerals_by_value (λ ds. all_ascii_digits ds ≡ true) tells_all_ascii_digits
 
 past_last : (n : ℕ) → 2 ^ 32 ≤ n → row_if n ≡ None
 past_last n h = let no : is_row (pos n) ≡ false = grind (arith, nat_tests) in rw no refl

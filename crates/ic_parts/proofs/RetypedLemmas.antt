@@ -1,7 +1,7 @@
 -- A cell that is typed what it showed holds what it held.
 use Rattle.std.proofs.Common.{ℕ, ℤ, List, Result, Ok, Err}
 use Rattle.std.specs.Result.{OnOk}
-use Rattle.ic_machine.proofs.RetypedLemmas.{retyped_stays}
+use Rattle.ic_machine.proofs.valid.RetypedLemmas.{retyped_stays}
 use Rattle.ic_machine.specs.subjects.Writing.{SetUserInput, writing_step}
 use Rattle.ic_parts.specs.Book.{ModelState}
 use Rattle.ic_parts.specs.Does.{DoesStep, WantedIn}

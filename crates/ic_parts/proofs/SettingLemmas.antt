@@ -4,7 +4,7 @@ use Rattle.std.specs.Prelude.{flat_map}
 use Rattle.ic_tables.specs.Tables.{lists_zone}
 use Rattle.ic_machine.specs.Book as machine
 use Rattle.ic_machine.specs.Book.{Stepped, unless, unless_refused}
-use Rattle.ic_machine.proofs.SubjectsStay.{notation_stays, tabs_are}
+use Rattle.ic_machine.proofs.valid.SubjectsStay.{notation_stays, tabs_are}
 use Rattle.ic_machine.specs.Kept.{StaysValid}
 use Rattle.ic_machine.specs.Refusal.{InvalidTimezone, first_refusal}
 use Rattle.ic_machine.specs.Reply.{Field}

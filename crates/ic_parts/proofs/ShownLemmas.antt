@@ -25,7 +25,7 @@ use Rattle.ic_cells.specs.declared.value.CellValue.TheVariants as values
 use Rattle.ic_cells.specs.declared.value.FormulaValue.TheVariants as formulas
 use Rattle.ic_cells.specs.declared.value.SpillValue.TheVariants as spills
 use Rattle.ic_input.specs.Code.{is_date_code}
-use Rattle.ic_machine.proofs.AlikeGrid.{get-seen}
+use Rattle.ic_machine.proofs.contents.AlikeGrid.{get-seen}
 use Rattle.ic_machine.specs.Book as machine
 use Rattle.ic_machine.specs.Book.{content_at}
 use Rattle.ic_machine.specs.Content as contents

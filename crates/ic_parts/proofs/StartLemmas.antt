@@ -9,7 +9,7 @@ use Rattle.ic_tables.specs.Tables.{IsWellFormed, TableSet, locale_of, language_o
 use Rattle.ic_tree.specs.Notations.{notations_of}
 use Rattle.ic_laws.specs.Notations.{Notations}
 use Rattle.ic_laws.specs.declared.scene.Scene.{Scene}
-use Rattle.ic_machine.proofs.SheetsStay.{nothing_holds}
+use Rattle.ic_machine.proofs.valid.SheetsStay.{nothing_holds}
 use Rattle.ic_machine.specs.Book as machine
 use Rattle.ic_machine.specs.Book.{empty_sheet}
 use Rattle.ic_machine.specs.Valid as valid_machine

@@ -15,9 +15,9 @@ use Rattle.ic_cells.specs.declared.style.Style.{Style}
 use Rattle.ic_grid.specs.Shape.{celled}
 use Rattle.ic_grid.specs.Style as grid_style
 use Rattle.ic_grid.specs.declared.grid.Grid.{Grid}
-use Rattle.ic_machine.proofs.AlikeGrid.{get-seen, style_at-seen}
-use Rattle.ic_machine.proofs.AlikeLemmas.{cells_are_contents}
-use Rattle.ic_machine.proofs.ValidLemmas.{HoldsOf, holds_at}
+use Rattle.ic_machine.proofs.contents.AlikeGrid.{get-seen, style_at-seen}
+use Rattle.ic_machine.proofs.contents.AlikeLemmas.{cells_are_contents}
+use Rattle.ic_machine.proofs.valid.ValidLemmas.{HoldsOf, holds_at}
 use Rattle.ic_machine.specs.Book as machine
 use Rattle.ic_machine.specs.Book.{at_sheet, content_at, style_number_at, unless_refused}
 use Rattle.ic_machine.specs.Content as contents

@@ -8,7 +8,7 @@ use Rattle.ic_laws.specs.CoreStep.{updated_at}
 use Rattle.ic_cells.specs.Style.{first_place, style_number, with_style_in}
 use Rattle.ic_cells.specs.declared.style.Style.{Style}
 use Rattle.ic_grid.specs.declared.grid.Grid.{Grid}
-use Rattle.ic_machine.proofs.StylesStay.{styles_stay}
+use Rattle.ic_machine.proofs.valid.StylesStay.{styles_stay}
 use Rattle.ic_machine.specs.Book as machine
 use Rattle.ic_machine.specs.Book.{Stepped, unless, unless_refused}
 use Rattle.ic_machine.specs.Kept.{StaysValid}

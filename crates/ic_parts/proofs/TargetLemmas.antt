@@ -23,7 +23,7 @@ use Rattle.ic_machine.specs.Book as machine
 use Rattle.ic_machine.specs.InForce.{InForce, all_there, by_notation, in_force, is_number, typed_in}
 use Rattle.ic_parts.specs.Book.{NotationState}
 use Rattle.ic_parts.specs.Translated.{IsIn, localized_in}
-use Rattle.ic_machine.proofs.RetypedLemmas.{boolean_at, error_at}
+use Rattle.ic_machine.proofs.valid.RetypedLemmas.{boolean_at, error_at}
 
 same_number : (v : ℤ) (t : Typed) → t ≡ kinds.Number v None → is_number v t ≡ true
 same_number v t e = ap (is_number v) e ∙ (Decides-int_eq v v).1 refl

@@ -10,10 +10,10 @@ use Rattle.ic_cells.specs.declared.style.Style.{Style}
 use Rattle.ic_grid.specs.Contents.{Contents}
 use Rattle.ic_grid.specs.Merges.{is_covered}
 use Rattle.ic_grid.specs.Shape.{celled, is_loose}
-use Rattle.ic_machine.proofs.AlikeGrid.{is_fixed_at-seen, style_at-seen, written-seen}
-use Rattle.ic_machine.proofs.AlikeLemmas.{cells_are_contents}
-use Rattle.ic_machine.proofs.ValidLemmas.{holds_at}
-use Rattle.ic_machine.proofs.WritingSteps.{IsGood, write_stays}
+use Rattle.ic_machine.proofs.contents.AlikeGrid.{is_fixed_at-seen, style_at-seen, written-seen}
+use Rattle.ic_machine.proofs.contents.AlikeLemmas.{cells_are_contents}
+use Rattle.ic_machine.proofs.valid.ValidLemmas.{holds_at}
+use Rattle.ic_machine.proofs.valid.WritingSteps.{IsGood, write_stays}
 use Rattle.ic_machine.specs.Book as machine
 use Rattle.ic_machine.specs.Book.{Stepped, found_or, unless, with_sheet}
 use Rattle.ic_machine.specs.Content.{Content, content_of, held}

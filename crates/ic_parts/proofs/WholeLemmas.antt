@@ -14,8 +14,7 @@ use Rattle.ic_cells.specs.Cell.{cell_formula_index}
 use Rattle.ic_cells.specs.declared.cell.Cell.{Cell}
 use Rattle.ic_cells.specs.declared.cell.Cell.TheVariants as cells
 use Rattle.ic_grid.specs.Contents.{Contents}
-use Rattle.ic_machine.proofs.AlikeGrid.{empty-seen, entries-seen}
-use Rattle.ic_machine.proofs.CoreLemmas.{insert-map}
+use Rattle.ic_machine.proofs.contents.AlikeGrid.{empty-seen, entries-seen}
 use Rattle.ic_machine.specs.Book as machine
 use Rattle.ic_machine.specs.Book.{Entry, core_cells, core_sheet, empty_sheet}
 use Rattle.ic_machine.specs.Changed as changed
@@ -28,6 +27,7 @@ use Rattle.ic_sheets.specs.Sheet.{Sheet, cells_of, empty_grid, kept_pool, plain_
 use Rattle.ic_parts.specs.Book.{Book, HasString, core_of, notations_in, scene_in, whole_of, whole_sheet}
 use Rattle.ic_parts.specs.Change.{book_changed_by, with_added_definition, with_added_sheet, with_inserted_sheet, with_kept_pools, with_moved_sheet, with_removed_definition, with_removed_sheet, with_renamed_sheet}
 use Rattle.ic_parts.proofs.BookLemmas.{moved-map}
+use Rattle.ic_laws.proofs.General.{insert-map}
 
 -- the core ----
 

@@ -22,10 +22,10 @@ use Rattle.ic_grid.specs.Contents.{Contents}
 use Rattle.ic_grid.specs.Merges.{is_covered}
 use Rattle.ic_grid.specs.Prepare.{written}
 use Rattle.ic_grid.specs.Shape.{celled}
-use Rattle.ic_machine.proofs.AlikeGrid.{is_fixed_at-seen, style_at-seen, written-seen}
-use Rattle.ic_machine.proofs.AlikeLemmas.{cells_are_contents}
-use Rattle.ic_machine.proofs.PlacedLemmas.{placed_index}
-use Rattle.ic_machine.proofs.WritingSteps.{text_good, write_stays}
+use Rattle.ic_machine.proofs.contents.AlikeGrid.{is_fixed_at-seen, style_at-seen, written-seen}
+use Rattle.ic_machine.proofs.contents.AlikeLemmas.{cells_are_contents}
+use Rattle.ic_machine.proofs.contents.PlacedLemmas.{placed_index}
+use Rattle.ic_machine.proofs.valid.WritingSteps.{text_good, write_stays}
 use Rattle.ic_machine.specs.Book as machine
 use Rattle.ic_machine.specs.Book.{Stepped, found_or, style_number_at, unless, with_sheet}
 use Rattle.ic_machine.specs.Content.{AnchorContent, Content, FormulaContent, content_of, held}
@@ -46,7 +46,7 @@ use Rattle.ic_parts.specs.declared.error.BookError.{BookError}
 use Rattle.ic_parts.proofs.GridLemmas.{strings_written}
 use Rattle.ic_parts.proofs.WholeLemmas.{whole_core}
 use Rattle.ic_parts.proofs.WrittenLemmas.{updated_alike}
-use Rattle.ic_grid.proofs.WriteLemmas.{some_there as there}
+use Rattle.ic_laws.proofs.General.{some_there as there}
 
 -- the notation in force of a valid book ----
 

@@ -10,7 +10,7 @@ use Rattle.ic_laws.specs.declared.tree.Formula.{Formula}
 use Rattle.ic_cells.specs.Cell.{cell_formula_index}
 use Rattle.ic_cells.specs.Maps.{place_cmp}
 use Rattle.ic_cells.specs.declared.cell.Cell.{Cell}
-use Rattle.ic_machine.proofs.CoreValid.{each_found}
+use Rattle.ic_machine.proofs.as_core.CoreValid.{each_found}
 use Rattle.ic_pool.specs.Pool.{IsPlaced}
 use Rattle.ic_sheets.proofs.PoolLemmas.{IsBelow, cells_same, has_placed}
 use Rattle.ic_sheets.specs.Sheet.{HasIndexes, IsValidPool, Sheet, sheet_core}

@@ -40,7 +40,7 @@ naming_spares_found scene id name scope = spares_found (sheet_named scene id nam
     sheet (sheets.Sheet found) e = refl
     sheet (sheets.Dangling typed) e = cc
 
-both_false : (a : Bool) → (a && false) ≡ false
+pub both_false : (a : Bool) → (a && false) ≡ false
 both_false true = refl
 both_false false = refl
 

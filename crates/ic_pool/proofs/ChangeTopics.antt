@@ -16,8 +16,9 @@ use Rattle.ic_laws.specs.declared.tree.SheetMention.{SheetMention}
 use Rattle.ic_laws.specs.declared.tree.SheetMention.TheVariants as sheets
 use Rattle.ic_pool.specs.Pool.{is_among}
 use Rattle.ic_pool.specs.Topics.{SparesOthers, folded_topic, name_topic, sheet_topic, sheet_topics, word_topics}
-use Rattle.ic_pool.proofs.KeyLemmas.{bytes_eq-flip, clash}
+use Rattle.ic_pool.proofs.KeyLemmas.{clash}
 use Rattle.ic_pool.proofs.TopicLemmas.{spares_others}
+use Rattle.ic_laws.proofs.General.{bytes_eq-flip}
 
 -- names with other topics are others
 pub apart : (a b : List ℕ) → is_among (folded_topic a) (folded_topic b ∷ []) ≡ false → bytes_eq a b ≡ false

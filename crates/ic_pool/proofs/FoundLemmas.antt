@@ -13,7 +13,8 @@ use Rattle.ic_pool.specs.Hash.{hash_of, key_cmp}
 use Rattle.ic_pool.specs.LookUp.{AreHashed, IsEmpty, IsHashed, IsKept, IsLeftOut, IsPut, IsSame, apart_from, checked, first_of, found, has_key, is_place}
 use Rattle.ic_pool.specs.declared.look_up.LookUp.{LookUp}
 use Rattle.ic_pool.proofs.HashLemmas.{is_eq-key_cmp}
-use Rattle.ic_pool.proofs.KeyLemmas.{bytes_eq-flip, clash}
+use Rattle.ic_pool.proofs.KeyLemmas.{clash}
+use Rattle.ic_laws.proofs.General.{bytes_eq-flip}
 
 abbrev by_hash : LookUp → ℕ → Option ℕ
 by_hash look hash = get nat_cmp look.by_hash hash

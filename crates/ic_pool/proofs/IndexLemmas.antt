@@ -11,9 +11,9 @@ use Rattle.ic_pool.specs.Mentions.{has_dangling}
 use Rattle.ic_pool.specs.Pool.{IsLookUp, KeepsPlaces, dangling_count, dangling_places, dangling_weight, first_place, places_from}
 use Rattle.ic_pool.specs.declared.look_up.LookUp.{LookUp}
 use Rattle.ic_pool.proofs.FoundLemmas.{StandsIn, empty_found, empty_hashed, last_stands, put_found, put_hashed, stands_before, stands_itself}
-use Rattle.ic_pool.proofs.KeyLemmas.{bytes_eq-flip}
 use Rattle.ic_pool.proofs.LateLemmas.{whole_knows}
 use Rattle.ic_pool.proofs.PlacedLemmas.{Finds, KeepsPlaces-push}
+use Rattle.ic_laws.proofs.General.{bytes_eq-flip}
 
 -- by each key the first place of a formula with that key is found, of those that stand at this place or after
 pub record KeepsFrom (find : List ℕ → Option ℕ) (at : ℕ) (formulas : List Formula) : Type 0 where

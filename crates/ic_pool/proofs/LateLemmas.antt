@@ -18,8 +18,9 @@ use Rattle.ic_pool.specs.declared.pool.rewrites.OldKey.{OldKey}
 use Rattle.ic_pool.specs.declared.pool.rewrites.Replacement.{Replacement}
 use Rattle.ic_pool.specs.declared.look_up.LookUp.{LookUp}
 use Rattle.ic_pool.proofs.FoundLemmas.{empty_hashed, same_both}
-use Rattle.ic_pool.proofs.KeyLemmas.{bytes_eq-flip, clash}
+use Rattle.ic_pool.proofs.KeyLemmas.{clash}
 use Rattle.ic_pool.proofs.PlacedLemmas.{Finds}
+use Rattle.ic_laws.proofs.General.{bytes_eq-flip}
 
 abbrev Index : Type 0
 Index = List ℕ → Option ℕ
@@ -94,12 +95,6 @@ knows_whole index xs knows = record { finds = λ key. same key (at_key index key
         let j_is : j ≡ first.0 = cc in
         let equal : k ≡ j = omega (arith, has.1, first.1, k_is, j_is) in
         e ∙ ap (λ n. Some n) equal ∙ sym f
-
-pub knows_alike : (before after : Index) (late : List ℕ) (xs : List Formula) → ((q : List ℕ) → after q ≡ before q) → KnowsRest before late xs → KnowsRest after late xs
-knows_alike before after late xs alike knows = record {
-  is_true = λ key at f. knows.is_true key at (sym (alike key) ∙ f);
-  has_rest = λ at x f l. let has = knows.has_rest at x f l in (has.0, has.1, alike (code x) ∙ has.2);
-}
 
 -- ---- a late place is put in
 

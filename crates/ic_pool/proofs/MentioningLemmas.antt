@@ -16,6 +16,7 @@ use Rattle.ic_pool.specs.Mentioning.{AreThosePassing, mentions_name, mentions_sh
 use Rattle.ic_pool.specs.Pool.{is_among}
 use Rattle.ic_pool.specs.Topics.{folded_topic, mentions_some, sheet_topic}
 use Rattle.ic_pool.proofs.ChangeTopics.{deleting_spares, going_spares}
+use Rattle.ic_pool.proofs.ChangeLemmas.{both_false as no_more}
 
 absorbed : (q r : Bool) → (q || (r && q)) ≡ q
 absorbed true r = refl
@@ -28,13 +29,9 @@ joined true e r p q same = refl
 joined false true r p q same = ap (λ b. b || (r && q)) (same refl) ∙ absorbed q r
 joined false false r p q same = refl
 
-or_false : (b : Bool) → b ≡ (b || false)
+pub or_false : (b : Bool) → b ≡ (b || false)
 or_false true = refl
 or_false false = refl
-
-no_more : (r : Bool) → (r && false) ≡ false
-no_more true = refl
-no_more false = refl
 
 module _ (test : Formula → Bool) (formulas : List Formula) where
   -- each place that passes is put in or left to look at, and each that is put in passes

@@ -6,7 +6,8 @@ use Rattle.ic_laws.specs.declared.tree.Formula.{Formula}
 use Rattle.ic_pool.specs.Code.{code}
 use Rattle.ic_pool.specs.Pool.{IsFirstAt, IsFirstPlace, IsPlaced, first_place, KeepsPlaces}
 use Rattle.ic_pool.proofs.CodeLaws.{code_determines}
-use Rattle.ic_pool.proofs.KeyLemmas.{bytes_eq-flip, clash}
+use Rattle.ic_pool.proofs.KeyLemmas.{clash}
+use Rattle.ic_laws.proofs.General.{none_left, swap_places, bytes_eq-flip}
 
 -- ---- in a list
 
@@ -42,23 +43,12 @@ pub first_found : (x : Formula) (xs : List Formula) (at : ℕ) → first_place (
 first_found x [] at e = cc
 first_found x (y ∷ xs) at e = found_step x y xs at (first_place (code x) xs) (λ k f. first_found x xs k f) (bytes_eq (code x) (code y)) refl e
 
-none_left : (b : Bool) (o : Option ℕ) → cond b (Some 0) (option_map suc o) ≡ None → (b ≡ false) × (o ≡ None)
-none_left true o e = cc
-none_left false None e = (refl, refl)
-none_left false (Some k) e = cc
-
 -- a formula that the list has not is first at its end
 pub first_pushed : (x : Formula) (xs : List Formula) → first_place (code x) xs ≡ None → IsFirstAt x (length xs) (xs ++ x ∷ [])
 first_pushed x [] e = first_head x []
 first_pushed x (y ∷ xs) e =
     let parts = none_left (bytes_eq (code x) (code y)) (first_place (code x) xs) e in
     first_tail x y (length xs) (xs ++ x ∷ []) (apart_from_codes x y parts.0) (first_pushed x xs parts.1)
-
-swap_places : (t b : Bool) (n : ℕ) (r : Option ℕ) → (t ≡ true → b ≡ true → ⊥) → cond t (Some 0) (option_map suc (cond b (Some n) r)) ≡ cond b (Some (suc n)) (cond t (Some 0) (option_map suc r))
-swap_places true true n r h = absurd (h refl refl)
-swap_places true false n r h = refl
-swap_places false true n r h = refl
-swap_places false false n r h = refl
 
 pub first_place-push : (x : Formula) (xs : List Formula) → first_place (code x) xs ≡ None → (key : List ℕ) → first_place key (xs ++ x ∷ []) ≡ cond (bytes_eq (code x) key) (Some (length xs)) (first_place key xs)
 first_place-push x [] none key = ap (λ b. cond b (Some 0) None) (bytes_eq-flip key (code x))

@@ -17,8 +17,9 @@ use Rattle.ic_refs.specs.Digits.{digit_number, number_value}
 use Rattle.ic_refs.proofs.DigitsLemmas.{read_stops}
 use Rattle.ic_refs.proofs.LongestLemmas.{IsTaken}
 use Rattle.ic_refs.proofs.A1NumberLemmas.{row_as_number, column_at-spelled, row_at-spelled, column_at-longest, row_at-longest, column_at-exact, row_at-exact}
-use Rattle.ic_refs.proofs.A1PairLemmas.{mapped, chained}
 use Rattle.ic_refs.proofs.LongestLemmas.{Reads}
+use Rattle.ic_laws.proofs.tokens.Splits.{mapped}
+use Rattle.ic_laws.proofs.General.{chained}
 
 pub column_reads : (column : ℤ) → Reads (SpellsColumn column) (column_at column) is_ascii_letter
 column_reads column = record { spelled = column_at-spelled column; longest = column_at-longest column; exact = column_at-exact column }

@@ -1,27 +1,11 @@
 -- Two of a kind with a colon between them.
-use Rattle.std.proofs.Common.{◌≡◌, ℕ, ◌≤◌, List, [], ◌∷◌, ◌++◌, Bool, false, ◌==◌, ◌⊎◌, length, Option, Some, None, option_map, option_and_then, refl, sym, ◌∙◌, ap, subst, arith, inl, inr, append_assoc, length-append}
+use Rattle.std.proofs.Common.{◌≡◌, ℕ, ◌≤◌, List, [], ◌∷◌, ◌++◌, Bool, false, ◌==◌, length, Option, Some, None, option_map, option_and_then, refl, sym, ◌∙◌, ap, subst, arith, inl, inr, append_assoc, length-append}
 use Rattle.std.proofs.lemmas.Bool.Decides.{eqb_tells}
 use Rattle.ic_laws.specs.Scan.{first_is}
 use Rattle.ic_refs.specs.A1.{past_colon, pair_at}
-use Rattle.ic_refs.specs.Sheet.{or_else}
 use Rattle.ic_refs.proofs.LongestLemmas.{IsTaken, Reads}
-
--- options
-pub none_or_some : {T : Type 0} (o : Option T) → (o ≡ None) ⊎ ((x : T) × (o ≡ Some x))
-none_or_some None = inl refl
-none_or_some (Some x) = inr (x, refl)
-
-pub or_else_parts : {T : Type 0} (x y : Option T) (v : T) → or_else x y ≡ Some v → (x ≡ Some v) ⊎ ((x ≡ None) × (y ≡ Some v))
-or_else_parts None y v e = inr (refl, e)
-or_else_parts (Some w) y v e = inl e
-
-pub mapped : {A B : Type 0} (f : A → B) (o : Option A) (y : B) → option_map f o ≡ Some y → (x : A) × (o ≡ Some x) × (f x ≡ y)
-mapped f None y e = absurd (cc)
-mapped f (Some x) y e = (x, refl, cc)
-
-pub chained : {A B : Type 0} (f : A → Option B) (o : Option A) (y : B) → option_and_then f o ≡ Some y → (x : A) × (o ≡ Some x) × (f x ≡ Some y)
-chained f None y e = absurd (cc)
-chained f (Some x) y e = (x, refl, e)
+use Rattle.ic_laws.proofs.tokens.Splits.{mapped}
+use Rattle.ic_laws.proofs.General.{chained}
 
 pub same_found : {T : Type 0} (o : Option T) (x y : T) → o ≡ Some x → o ≡ Some y → x ≡ y
 same_found o x y p q = cc

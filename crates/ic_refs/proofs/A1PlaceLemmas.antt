@@ -8,10 +8,11 @@ use Rattle.ic_laws.specs.declared.reference.Place.{Place}
 use Rattle.ic_laws.specs.declared.reference.Place.TheVariants as places
 use Rattle.ic_refs.specs.A1.{SpellsColumn, SpellsRow, SpellsCell, SpellsPlace, AreWholeColumns, AreWholeRows, column_at, cell_at, pair_at, a1_place_at}
 use Rattle.ic_refs.specs.Longest.{FindsLongest}
-use Rattle.ic_refs.proofs.A1PairLemmas.{SpellsPair, pair_alone, pair_longer, none_or_some}
+use Rattle.ic_refs.proofs.A1PairLemmas.{SpellsPair, pair_alone, pair_longer}
 use Rattle.ic_refs.proofs.LongestLemmas.{Reads, finds_longest, reaches_found, takes_found}
 use Rattle.ic_refs.proofs.A1CellLemmas.{cell_reads, row_no_column}
 use Rattle.ic_refs.proofs.A1ReadingLemmas.{as_cells, as_cell, as_columns, as_rows, cells_read, columns_read, rows_read, read_cells, read_cell, read_columns, read_rows, before_colon, place_at-spelled}
+use Rattle.ic_laws.proofs.parsing.ListFuelLemmas.{option_cases as none_or_some}
 
 -- a place is read, and no more than this is left after it
 abbrev IsReadUpTo : ℤ → ℤ → List ℕ → List ℕ → Type 0

@@ -10,9 +10,10 @@ use Rattle.ic_refs.specs.A1.{SpellsColumn, SpellsRow, SpellsCell, SpellsPlace, c
 use Rattle.ic_refs.specs.Sheet.{or_else}
 use Rattle.ic_refs.proofs.LongestLemmas.{IsTaken}
 use Rattle.ic_refs.proofs.A1NumberLemmas.{column_at-exact}
-use Rattle.ic_refs.proofs.A1PairLemmas.{SpellsPair, pair_reads, pair_none, or_else_parts, mapped}
+use Rattle.ic_refs.proofs.A1PairLemmas.{SpellsPair, pair_reads, pair_none}
 use Rattle.ic_refs.proofs.LongestLemmas.{Reads}
 use Rattle.ic_refs.proofs.A1CellLemmas.{column_reads, row_reads, cell_reads, cell_none}
+use Rattle.ic_laws.proofs.tokens.Splits.{mapped, or_else_parts}
 
 -- the four kinds of places
 abbrev pub as_cells : (RefPart × RefPart) × List ℕ → Place × List ℕ

@@ -6,7 +6,6 @@ use Rattle.std.specs.Str.Parse.{digits_value}
 use Rattle.std.proofs.lemmas.Bool.{and_parts, and_from, cases_Bool, le-leb, lt-ltb}
 use Rattle.std.proofs.lemmas.Bool.Decides.{Decides-int_eq}
 use Rattle.std.proofs.lemmas.Fmt.{digits_decimal, digits_value-decimal}
-use Rattle.std.proofs.lemmas.Str.Parse.{IsNumeralModel, numerals_by_value, tells_all_ascii_digits}
 use Rattle.ic_laws.specs.Name.{names_row}
 use Rattle.ic_laws.specs.Position.{is_row, is_column, place_at, is_part_inside, is_inside}
 use Rattle.ic_laws.specs.declared.reference.Position.{Position}
@@ -18,9 +17,7 @@ use Rattle.ic_refs.specs.A1.{SpellsColumn, SpellsRow, SpellsCell, SpellsPlace, c
 use Rattle.ic_refs.specs.Column.{column_letters}
 use Rattle.ic_refs.proofs.ColumnLemmas.{letters_number-column_letters, names_column-column_letters, number_of_column, number_of_row}
 use Rattle.ic_refs.proofs.A1PlaceLemmas.{EndsPlace, place_at-exact}
-
-numerals : IsNumeralModel (λ ds. all_ascii_digits ds ≡ true) (digits_value 10)
-numerals = numerals_by_value (λ ds. all_ascii_digits ds ≡ true) tells_all_ascii_digits
+use Rattle.ic_laws.proofs.AmountLemmas.{numerals}
 
 -- a row's digits name it
 names_row-decimal : (n : ℕ) → 1 ≤ n → n ≤ 1048576 → names_row (decimal n) ≡ true

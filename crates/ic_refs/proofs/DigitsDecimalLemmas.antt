@@ -4,17 +4,11 @@ use Rattle.std.specs.Char.{digit_value}
 use Rattle.std.specs.List.{list_all}
 use Rattle.std.specs.Str.{all_ascii_digits}
 use Rattle.std.specs.Str.Parse.{digits_value_after}
-use Rattle.std.proofs.lemmas.Str.{digit_value_digit}
 use Rattle.std.proofs.lemmas.Bool.{and_parts, and_from, and_right, true≢false, leb-true, leb-false, le-leb, cases_Bool}
 use Rattle.ic_laws.specs.Scan.{is_digit, first_is, run_of, past_run}
 use Rattle.ic_refs.specs.Digits.{decimal_from, digit_number, number_value}
 use Rattle.ic_refs.proofs.DigitsLemmas.{number_taken, read_past, read_stops}
-
--- a digit counts what it stands for
-digit-counts : (c : ℕ) → is_digit c ≡ true → digit_value c ≡ c - 48
-digit-counts c h =
-    let p = and_parts (leb 48 c) (leb c 57) h in
-    omega (arith, digit_value_digit c (leb-true 48 c p.0, leb-true c 57 p.1), leb-true 48 c p.0)
+use Rattle.ic_laws.proofs.AmountLemmas.{digit_value-is as digit-counts}
 
 -- more digits make no smaller number
 pub after-grows : (n : ℕ) (ds : List ℕ) → n ≤ digits_value_after 10 n ds

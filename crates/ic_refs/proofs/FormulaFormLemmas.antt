@@ -31,6 +31,7 @@ use Rattle.ic_refs.proofs.ReferenceLemmas.{read_with_sheet}
 use Rattle.ic_laws.proofs.tokens.Characters.{past_run_all}
 use Rattle.ic_laws.proofs.tokens.SheetTexts.{sheet_complete}
 use Rattle.ic_refs.proofs.FormulaTrimLemmas.{blanks_reverse}
+use Rattle.ic_laws.proofs.tokens.Lexing.{all_past as past_all}
 
 -- Blanks at both ends
 
@@ -70,9 +71,6 @@ trimmed_is text =
       begins = front_first (trimmed text) after (sym (ap (first_is is_blank) back) ∙ past_begins text);
       ends = ap (first_is is_blank) (reverse-reverse (past_run is_blank (reverse left))) ∙ past_begins (reverse left);
     }
-
-past_all : (text : List ℕ) → list_all is_blank text ≡ true → past_run is_blank text ≡ []
-past_all text h = ap (past_run is_blank) (sym (append-nil text)) ∙ past_run_all is_blank text [] h refl
 
 -- blanks alone leave nothing
 trimmed_core : (before core after : List ℕ) → list_all is_blank before ≡ true → list_all is_blank after ≡ true → first_is is_blank core ≡ false → first_is is_blank (reverse core) ≡ false

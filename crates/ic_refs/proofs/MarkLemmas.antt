@@ -19,6 +19,7 @@ use Rattle.ic_refs.proofs.A1PositionLemmas.{SpellsCounted}
 use Rattle.ic_laws.specs.SheetText.{sheet_at}
 use Rattle.ic_refs.proofs.A1PlaceLemmas.{EndsPlace}
 use Rattle.ic_laws.proofs.tokens.SheetTexts.{no_sheet_without_bang}
+use Rattle.ic_laws.proofs.tokens.Locals.{end_no_bang}
 
 -- an ASCII letter is a letter
 letter_or_other : ℕ → Bool
@@ -150,10 +151,6 @@ front_no_quote (c ∷ cs) rest t =
       | inl p ↦ absurd (both_ways (is_place_character c) (ap is_place_character p.1) (and_parts (is_place_character c) (list_all is_place_character cs) t.all).0)
       | inr p ↦ p.0
     ]
-
-end_no_bang : (rest : List ℕ) → IsEnd rest → first_is (λ c. c == 33) (past_run is_plain rest) ≡ false
-end_no_bang [] h = refl
-end_no_bang (c ∷ cs) h = let parts = joins_parts c h in rw parts.0 parts.1
 
 run_no_bang : (cs rest : List ℕ) → list_all is_place_character cs ≡ true → IsEnd rest → first_is (λ c. c == 33) (past_run is_plain (cs ++ rest)) ≡ false
 run_no_bang [] rest a h = end_no_bang rest h

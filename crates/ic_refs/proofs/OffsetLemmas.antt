@@ -1,5 +1,5 @@
 -- What is read at a byte of a text.
-use Rattle.std.proofs.Common.{◌≡◌, true, false, ◌&&◌, ◌||◌, ℕ, ◌-◌, ◌≤◌, ◌<◌, List, ◌++◌, length, drop, nat_le, nat_lt, Option, Some, None, option_map, chars, encode_utf8_all, IsUtf8, refl, sym, ◌∙◌, ap, inl, inr, arith}
+use Rattle.std.proofs.Common.{◌≡◌, true, false, ◌&&◌, ◌||◌, ℕ, ◌-◌, ◌≤◌, ◌<◌, List, ◌++◌, length, drop, nat_le, nat_lt, Option, Some, None, option_map, chars, encode_utf8_all, IsUtf8, sym, ◌∙◌, ap, inl, inr, arith}
 use Rattle.std.specs.List.{slice_index}
 use Rattle.std.specs.Str.{IsCharBoundary}
 use Rattle.std.proofs.lemmas.Bool.{both_ways, cases_Bool}
@@ -23,10 +23,6 @@ boundary_true text at h = boundary_to at (length text) (slice_index text at) h.0
 
 pub boundary_false : (text : List ℕ) (at : ℕ) → (IsCharBoundary text at → ⊥) → is_char_boundary text at ≡ false
 boundary_false text at h = elim (cases_Bool (is_char_boundary text at)) [ inl e ↦ absurd (h (boundary_holds text at e)) | inr e ↦ e ]
-
--- nothing begins there
-pub read_outside : {T : Type 0} (reader : List ℕ → Option (T × List ℕ)) (text : List ℕ) (at : ℕ) → is_char_boundary text at ≡ false → None ≡ read_at reader text at
-read_outside reader text at b = rw b refl
 
 module _ {T : Type 0} (Spells : List ℕ → T → Type 0) (reader : List ℕ → Option (T × List ℕ)) (finds : (text : List ℕ) → FindsLongest Spells text (reader text)) where
   longest_from : (text : List ℕ) (at : ℕ) (found : Option (T × List ℕ)) → IsUtf8 text → IsCharBoundary text at → FindsLongest Spells (chars (drop at text)) found → FindsLongestAt Spells text at (option_map (λ (f : T × List ℕ). (f.0, length (drop at text) - length (encode_utf8_all f.1))) found)

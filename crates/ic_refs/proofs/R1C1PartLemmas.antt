@@ -7,7 +7,7 @@ use Rattle.std.specs.Str.Parse.{digits_value}
 use Rattle.std.proofs.Math.Nat.{add-mod_right, mod-eq_of_lt}
 use Rattle.std.proofs.lemmas.Int.{ints, int_rem_euclid_is}
 use Rattle.std.proofs.lemmas.Bool.Decides.{leb_tells}
-use Rattle.std.proofs.lemmas.Bool.{and_parts, and_from, cases_Bool, cond-true, eqb-true, leb-true, le-leb, lt-ltb, ltb-true, true≢false}
+use Rattle.std.proofs.lemmas.Bool.{and_parts, cases_Bool, cond-true, eqb-true, leb-true, le-leb, lt-ltb, ltb-true, true≢false}
 use Rattle.ic_laws.specs.Scan.{is_digit, first_is, run_of, past_run}
 use Rattle.ic_laws.proofs.RunLemmas.{run_and_rest}
 use Rattle.ic_refs.specs.declared.error.ReferenceError.{ReferenceError}
@@ -21,6 +21,7 @@ use Rattle.ic_refs.proofs.R1C1NumberLemmas.{number_some}
 use Rattle.ic_laws.proofs.tokens.Characters.{run_of_all, past_run_all}
 use Rattle.ic_refs.proofs.StoredLemmas.{nat_abs_neg}
 use Rattle.ic_refs.proofs.StoredReachLemmas.{digits_begin, other_than_digit}
+use Rattle.ic_laws.proofs.AmountReading.{run_of-is_digits as run_digits}
 
 -- a bracket that opens an offset
 abbrev pub is_open : ℕ → Bool
@@ -35,14 +36,6 @@ pub bind : {A B : Type 0} (r : Result A ReferenceError) (f : A → Result B Refe
 bind r f x e = ap (λ r. r >>= f) e
 
 -- Numbers
-
-run_digits : (text : List ℕ) → all_ascii_digits (run_of is_digit text) ≡ true
-run_digits [] = refl
-run_digits (c ∷ cs) =
-    elim (cases_Bool (is_digit c)) [
-      | inl t ↦ rw t (and_from (is_digit c) (all_ascii_digits (run_of is_digit cs)) t (run_digits cs))
-      | inr f ↦ rw f refl
-    ]
 
 run_begins : (c : ℕ) (cs : List ℕ) → is_digit c ≡ true → run_of is_digit (c ∷ cs) ≢ []
 run_begins c cs t = λ e. let k : c ∷ run_of is_digit cs ≡ [] = rw t at e in cc

@@ -31,7 +31,7 @@ any_some (b ∷ cs) after c e =
       | inr f ↦ let k = rw f at e in rw f (any_some cs after c k)
     ]
 
-one_more : (k : ℕ) → 1 + k ≡ suc k
+pub one_more : (k : ℕ) → 1 + k ≡ suc k
 one_more k = omega arith
 
 two_more : (k : ℕ) → 1 + k + 1 ≡ suc (k + 1)

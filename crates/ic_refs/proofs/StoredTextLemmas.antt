@@ -3,10 +3,8 @@ use Rattle.std.proofs.Common.{◌≡◌, ◌<◌, ℕ, ℤ, pos, negsuc, ◌^◌
 use Rattle.std.specs.Fmt.{decimal}
 use Rattle.std.specs.List.{list_any}
 use Rattle.std.specs.Str.{all_ascii_digits}
-use Rattle.std.specs.Str.Parse.{digits_value}
 use Rattle.std.proofs.lemmas.Bool.{and_parts, or_parts, or_from, leb-true, ltb-true, false≢true}
 use Rattle.std.proofs.lemmas.Fmt.{digits_decimal, digits_value-decimal, decimal_nonempty}
-use Rattle.std.proofs.lemmas.Str.Parse.{IsNumeralModel, numerals_by_value, tells_all_ascii_digits}
 use Rattle.ic_laws.specs.Scan.{is_digit, is_plain, is_word_character, is_letter, first_is, joins, IsEnd}
 use Rattle.ic_laws.specs.declared.reference.Position.{Position}
 use Rattle.ic_laws.specs.declared.reference.Position.TheVariants as at
@@ -16,10 +14,7 @@ use Rattle.ic_laws.specs.declared.reference.Place.TheVariants as places
 use Rattle.ic_laws.specs.Position.{is_within, is_part_within, is_place_within}
 use Rattle.ic_refs.specs.Stored.{SpellsNumber, SpellsDistance, SpellsPosition, SpellsCell, SpellsPlace, position_text, cell_text, place_text, stored_place_at}
 use Rattle.ic_refs.proofs.StoredReachLemmas.{place_exactly, other_than_digit}
-
--- digits and their number
-own : IsNumeralModel (λ ds. all_ascii_digits ds ≡ true) (digits_value 10)
-own = numerals_by_value _ tells_all_ascii_digits
+use Rattle.ic_laws.proofs.AmountLemmas.{numerals as own}
 
 number_spelled : (n : ℕ) → n < 2 ^ 64 → SpellsNumber (decimal n) n
 number_spelled n h = (digits_decimal own n h, (λ e. omega (arith, ap length e, decimal_nonempty n h)), digits_value-decimal own n h)
@@ -96,7 +91,7 @@ pub record IsApart (p : ℕ → Bool) : Type 0 where
   pub minus : p 45 ≡ false
   pub colon : p 58 ≡ false
 
-none_append : (p : ℕ → Bool) (a b : List ℕ) → list_any p a ≡ false → list_any p b ≡ false → list_any p (a ++ b) ≡ false
+pub none_append : (p : ℕ → Bool) (a b : List ℕ) → list_any p a ≡ false → list_any p b ≡ false → list_any p (a ++ b) ≡ false
 none_append p [] b h k = k
 none_append p (c ∷ a) b h k =
     let q = or_parts (p c) (list_any p a) h in or_from (p c) (list_any p (a ++ b)) q.0 (none_append p a b q.1 k)

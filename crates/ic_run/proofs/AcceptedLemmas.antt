@@ -17,8 +17,8 @@ use Rattle.ic_machine.specs.Step.{machine}
 use Rattle.ic_machine.specs.Translation.{IsTranslation, Why}
 use Rattle.ic_machine.specs.TranslationLaws.{IsBeside}
 use Rattle.ic_machine.specs.Valid.{IsValidBook}
-use Rattle.ic_machine.proofs.MetadataFree.{hindered_same}
-use Rattle.ic_machine.proofs.TranslationSame.{translation_keeps_book}
+use Rattle.ic_machine.proofs.same.MetadataFree.{hindered_same}
+use Rattle.ic_machine.proofs.same.TranslationSame.{translation_keeps_book}
 use Rattle.ic_parts.specs.Book as held
 use Rattle.ic_parts.specs.Book.{metadata_made}
 use Rattle.ic_parts.specs.Translated.{notation_refusal}

@@ -8,7 +8,7 @@ use Rattle.ic_machine.specs.Command.{Command, command_in, commands}
 use Rattle.ic_machine.specs.Core.{whole_command}
 use Rattle.ic_machine.specs.Reply.{reply_bytes, reply_text}
 use Rattle.ic_machine.specs.Step.{command_step, english_errors, outcome_of, step}
-use Rattle.ic_machine.proofs.CoreLines.{core_lines_are}
+use Rattle.ic_machine.proofs.as_core.CoreLines.{core_lines_are}
 use Rattle.ic_parts.specs.Book.{Book, IsSameBeside, IsValidBook, ModelState, StepsTo, core_of, notations_in}
 use Rattle.ic_parts.specs.Whole.{whole_of}
 use Rattle.ic_parts.proofs.WholeLemmas.{whole_core}

@@ -11,9 +11,9 @@ use Rattle.ic_machine.specs.Content.{formula_index}
 use Rattle.ic_machine.specs.Core.{IsFree, TakesFormula, told_by, told_by_core, whole_command}
 use Rattle.ic_machine.specs.Step.{step}
 use Rattle.ic_machine.specs.Valid.{HasCellFormulas, HasFormula}
-use Rattle.ic_machine.proofs.ValidLemmas.{all_at}
-use Rattle.ic_machine.proofs.FormulaStepped.{formula_told}
-use Rattle.ic_machine.proofs.SteppedLemmas.{stepped}
+use Rattle.ic_machine.proofs.valid.ValidLemmas.{all_at}
+use Rattle.ic_machine.proofs.as_core.FormulaStepped.{formula_told}
+use Rattle.ic_machine.proofs.as_core.SteppedLemmas.{stepped}
 use Rattle.ic_parts.specs.Book.{Book, IsValidBook, core_of, notations_in, whole_of}
 use Rattle.ic_parts.proofs.WholeLemmas.{whole_core}
 use Rattle.ic_parts.proofs.WholeWritten.{in_force_there}

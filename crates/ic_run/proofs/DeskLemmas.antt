@@ -1,6 +1,5 @@
 -- The program's words, its start and its statuses.
-use Rattle.std.proofs.Common.{String, ◌≡◌, ◌⊎◌, inl, inr, ℕ, List, [], ◌∷◌, get_or, Option, Some, None, Result, Ok, Err, IfOk, IfErr, OnOk, bytes_eq, codes, string_bytes, refl, arith, length, take, ◌+◌, ◌==◌, true, false, option_map, sym, subst, ◌∙◌, ap}
-use Rattle.std.proofs.lemmas.Bool.{eqb-true}
+use Rattle.std.proofs.Common.{String, ◌≡◌, ◌⊎◌, inl, inr, ℕ, List, [], ◌∷◌, get_or, Option, Some, None, Result, Ok, Err, IfOk, IfErr, OnOk, bytes_eq, codes, string_bytes, refl, arith, length, take, ◌+◌, true, false, option_map, sym, subst, ◌∙◌, ap}
 use Rattle.std.specs.Str.{chars}
 use Rattle.std.specs.declared.alloc.Global.{Global}
 use Rattle.ic_lines.specs.declared.error.RunError.{RunError}
@@ -17,7 +16,7 @@ use Rattle.ic_laws.specs.CoreBook.{CellPlace, CoreBook}
 use Rattle.ic_laws.specs.Lines.{texts_of}
 use Rattle.ic_cells.specs.declared.cell.Cell.{Cell}
 use Rattle.std.specs.FinMap as finite
-use Rattle.ic_machine.proofs.AlikeGrid.{entries-empty, get-seen}
+use Rattle.ic_machine.proofs.contents.AlikeGrid.{entries-empty, get-seen}
 use Rattle.ic_machine.specs.Content.{content_of}
 use Rattle.ic_parts.specs.Whole.{whole_of}
 use Rattle.ic_sheets.specs.Sheet.{cells_of}
@@ -56,10 +55,6 @@ on_ok_at_0 (Err run.OutOfMemory) P h e = absurd (omega (arith, e))
 pub completes_so : (r : Result ℕ RunError) (status : ℕ) → status ≡ run_status r → IfErr r (λ e. e ≡ run.OutOfMemory) → (status ≡ 0) ⊎ (status ≡ 6)
 completes_so (Ok n) status is h = inl is
 completes_so (Err e) status is h = inr (is ∙ ap (λ (x : RunError). let r : Result ℕ RunError = Err x in run_status r) h)
-
-pub empty_list : {X : Type 0} (xs : List X) → (length xs == 0) ≡ true → xs ≡ []
-empty_list [] h = refl
-empty_list (x ∷ xs) h = absurd (omega (arith, eqb-true (length (x ∷ xs)) 0 h))
 
 -- the texts of en, en and UTC
 pub english_read : (let given : Setting = record { locale = chars (codes "en"); language = chars (codes "en"); zone = chars (codes "UTC") } in given) ≡ made_setting

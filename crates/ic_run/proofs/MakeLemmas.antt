@@ -9,7 +9,6 @@ use Rattle.std.proofs.lemmas.Bool.Decides.{leb_tells}
 use Rattle.std.proofs.lemmas.Str.{chars-IsAscii, encodes-IsAscii, encodes-chars}
 use Rattle.std.proofs.lemmas.Str.Parse.{numerals_by_value, parse_plain, tells_all_ascii_digits}
 use Rattle.ic_laws.specs.Command.{at_most}
-use Rattle.ic_words.proofs.NumberLemmas.{digits_ascii, without_digits}
 use Rattle.ic_machine.specs.Book.{Book}
 use Rattle.ic_machine.specs.Reply.{reply_text}
 use Rattle.ic_machine.specs.Command.{commands}
@@ -20,6 +19,7 @@ use Rattle.ic_run.specs.Desk.{texts}
 use Rattle.ic_run.specs.Make.{count_said, made_command, made_from, made_text, making_of, making_said, seed_said, told_replies}
 use Rattle.ic_run.specs.declared.make.Making.{Making}
 use Rattle.ic_run.proofs.DeskLemmas.{word_text}
+use Rattle.ic_laws.proofs.General.{digits_ascii, no_number as without_digits}
 
 -- From a book on some lines were answered by these texts; others are left, from a book that they left.
 pub record IsHalfway (start : Book) (lines : List (List ℕ)) (book : Book) (left : List (List ℕ)) (texts : List (List ℕ)) : Type 0 where

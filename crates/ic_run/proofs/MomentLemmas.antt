@@ -6,7 +6,7 @@ use Rattle.ic_cells.specs.declared.workbook.Metadata.{Metadata}
 use Rattle.ic_machine.specs.Book.{Book}
 use Rattle.ic_machine.specs.Run.{after}
 use Rattle.ic_machine.specs.Translation.{left_after}
-use Rattle.ic_machine.proofs.MetadataFree.{left_same, with_metadata}
+use Rattle.ic_machine.proofs.same.MetadataFree.{left_same, with_metadata}
 use Rattle.ic_parts.specs.Book as held
 use Rattle.ic_parts.specs.Book.{metadata_made}
 use Rattle.ic_parts.specs.Whole.{whole_of}

@@ -19,9 +19,9 @@ use Rattle.ic_grid.specs.Block.{Place, same_place}
 use Rattle.ic_grid.specs.Contents.{Contents}
 use Rattle.ic_grid.specs.Prepare.{prepared, released, released_if, unspilled, without_spill, written}
 use Rattle.ic_grid.specs.Shape.{Anchor, Empty, Formula, Shape, SpillOf, Value, is_anchor, is_cse, is_loose, is_spill_of, reset}
-use Rattle.ic_machine.proofs.HaveLemmas.{AllHave, all_put, all_remade}
-use Rattle.ic_machine.proofs.SheetsStay.{all_moved}
-use Rattle.ic_machine.proofs.ValidLemmas.{all_at}
+use Rattle.ic_machine.proofs.contents.HaveLemmas.{AllHave, all_put, all_remade}
+use Rattle.ic_machine.proofs.valid.SheetsStay.{all_moved}
+use Rattle.ic_machine.proofs.valid.ValidLemmas.{all_at}
 use Rattle.ic_machine.specs.Book.{Book, Grid, Sheet, Stepped, as_core, core_of, empty_grid, empty_sheet, found_or, notations_in, scene_in, style_number_at, unless, unless_refused}
 use Rattle.ic_machine.specs.Changed.{changed_by, with_definition, with_kept_formulas, with_kept_pool, with_moved_sheet, with_removed_sheet, with_renamed_sheet, without_definition}
 use Rattle.ic_machine.specs.Content as contents

@@ -1,6 +1,6 @@
 -- No line changes the tables of a book.
 use Rattle.std.proofs.Common.{◌≡◌, ℕ, List, Option, Some, None, Ok, Err, refl}
-use Rattle.ic_machine.proofs.KindLemmas.{left_by_kind, tables_left}
+use Rattle.ic_machine.proofs.kinds.KindLemmas.{left_by_kind, tables_left}
 use Rattle.ic_machine.specs.Action.{Action}
 use Rattle.ic_machine.specs.Book.{Book, Stepped}
 use Rattle.ic_machine.specs.Command.{Command, action, command_in, commands}

@@ -2,7 +2,7 @@
 use Rattle.std.proofs.Common.{◌≡◌, ◌⊎◌, ◌<◌, ℕ, ◌+◌, ◌-◌, List, [], ◌∷◌, ◌++◌, Bool, true, false, ◌||◌, length, take, drop, Option, Some, None, IsSome, option_map, IsErr, IsErrAnd, Result, Ok, Err, inl, inr, refl, sym, ap, subst, ◌∙◌, append_assoc, append-nil, arith, if◌then◌else◌}
 use Rattle.std.specs.Prelude.{option_and_then}
 use Rattle.std.proofs.Math.Seq.{drop-length}
-use Rattle.ic_machine.proofs.ReaderLemmas.{readers_leave}
+use Rattle.ic_machine.proofs.kinds.ReaderLemmas.{readers_leave}
 use Rattle.ic_machine.specs.Book.{Book, Stepped}
 use Rattle.ic_machine.specs.Command.{Command, command_in, commands}
 use Rattle.ic_machine.specs.Readers.{LeavesIf, is_reader}

@@ -8,7 +8,7 @@ use Rattle.std.specs.Ordering.{eq_by_cmp, nat_cmp}
 use Rattle.std.proofs.lemmas.Bool.{false_from_ne_true}
 use Rattle.std.proofs.lemmas.Slice.Eq.{bytes_eq-Decides}
 use Rattle.ic_laws.specs.CoreStep.{Outcome}
-use Rattle.ic_machine.proofs.ReaderLemmas.{readers_leave}
+use Rattle.ic_machine.proofs.kinds.ReaderLemmas.{readers_leave}
 use Rattle.ic_machine.specs.Book.{Book, Stepped, as_core}
 use Rattle.ic_machine.specs.Command.{Command, OnNotation, command_in, commands}
 use Rattle.ic_machine.specs.Readers.{Leaves, LeavesIf, is_reader}
@@ -21,7 +21,7 @@ use Rattle.ic_run.proofs.TablesStay.{tables_stay}
 use Rattle.ic_share.specs.LeaveOut.{IsQuietIfBy, IsSameBut, LeavesNoTrace, is_by, is_line_of, is_quiet, told_each, without_user}
 use Rattle.ic_share.specs.Shared.{Languages, SharedBook, done_for, in_language, language_of, languages_left, sent_step, share_machine, with_choice}
 use Rattle.ic_share.specs.Users.{Sent, sent_in}
-use Rattle.ic_grid.proofs.ContentsLemmas.{equal as equal_order}
+use Rattle.ic_cells.proofs.ColumnLemmas.{tie as equal_order}
 
 -- a quiet command, in a book with another language, leaves the book but for that
 module _ (b : Book) (language : List ℕ) where

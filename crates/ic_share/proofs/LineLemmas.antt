@@ -1,5 +1,5 @@
 -- A line cut at its first tab, by its bytes and by its characters.
-use Rattle.std.proofs.Common.{◌≡◌, ℕ, suc, ◌+◌, ◌<◌, List, [], ◌∷◌, ◌++◌, ◌==◌, ◌||◌, Bool, true, false, cond, not, length, take, drop, Option, Some, None, is_some, unwrap_or, refl, sym, ap, ◌∙◌, arith, if◌then◌else◌}
+use Rattle.std.proofs.Common.{◌≡◌, ℕ, ◌+◌, ◌<◌, List, [], ◌∷◌, ◌++◌, ◌==◌, ◌||◌, Bool, true, false, cond, not, length, take, drop, Option, Some, None, is_some, unwrap_or, refl, sym, ap, ◌∙◌, arith, if◌then◌else◌}
 use mathlib.Core.Bool.{or-true as either}
 use lib.Utf8.{encode}
 use Rattle.std.specs.Str.{IsUtf8, chars}
@@ -13,9 +13,7 @@ use Rattle.memchr.specs.Find.{IsFirstByte, is_byte}
 use Rattle.ic_laws.specs.Lines.{words_of}
 use Rattle.ic_lines.proofs.TextLemmas.{byte-before, byte-cut, byte-same, byte-searched}
 use Rattle.ic_share.specs.Users.{is_tab, parts_of}
-
-one_more : (n : ℕ) → 1 + n ≡ suc n
-one_more n = omega arith
+use Rattle.ic_refs.proofs.R1C1SheetLemmas.{one_more}
 
 -- the first tab stands behind what has none
 first_tab : (xs ys : List ℕ) → list_any is_tab xs ≡ false → position_or_len is_tab (xs ++ 9 ∷ ys) ≡ length xs

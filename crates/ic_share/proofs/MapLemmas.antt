@@ -1,5 +1,5 @@
 -- The languages of users, as they are held: an ordered map of texts is a finite map of their characters.
-use Rattle.std.proofs.Common.{◌≡◌, ℕ, List, [], ◌∷◌, Bool, true, false, cond, map, Option, Some, None, String, string_bytes, IsUtf8, chars, encode_utf8_all, option_map, unwrap_or, refl, sym, ap, subst, ◌∙◌}
+use Rattle.std.proofs.Common.{◌≡◌, ℕ, List, [], ◌∷◌, Bool, true, false, cond, map, Option, Some, None, String, string_bytes, IsUtf8, chars, option_map, unwrap_or, refl, sym, ap, subst, ◌∙◌}
 use Rattle.std.specs.declared.alloc.Global.{Global}
 use Rattle.std.specs.declared.cmp.Ordering.{Ordering}
 use Rattle.std.specs.declared.cmp.Ordering.TheVariants.{Equal, Greater, Less}
@@ -14,8 +14,9 @@ use Rattle.std.specs.Ordering.{eq_by_cmp, is_eq, match_ordering, nat_cmp}
 use Rattle.std.specs.String.{string_cmp}
 use Rattle.std.proofs.lemmas.Map.Text.{is_eq-slice_cmp}
 use Rattle.std.proofs.lemmas.Slice.Eq.{bytes_eq-Decides}
-use Rattle.std.proofs.lemmas.Str.{IsUtf8-string_bytes, encodes-chars}
+use Rattle.std.proofs.lemmas.Str.{IsUtf8-string_bytes}
 use Rattle.ic_share.specs.Share.{languages_held}
+use Rattle.ic_laws.proofs.TextLemmas.{same_from_chars as same_bytes}
 
 abbrev Entry : Type 0
 Entry = String Global × String Global
@@ -28,10 +29,6 @@ code_of language = chars (string_bytes language)
 
 abbrev order : List ℕ → List ℕ → Ordering
 order = slice_cmp nat_cmp
-
--- texts with the same characters have the same bytes
-same_bytes : (a b : List ℕ) → IsUtf8 a → IsUtf8 b → chars a ≡ chars b → a ≡ b
-same_bytes a b ua ub e = sym (encodes-chars a ua) ∙ ap encode_utf8_all e ∙ encodes-chars b ub
 
 equal_texts : (a b : List ℕ) → Decides (is_eq (order a b)) (a ≡ b)
 equal_texts a b = subst (λ r. Decides r (a ≡ b)) (sym (is_eq-slice_cmp a b)) (bytes_eq-Decides a b)

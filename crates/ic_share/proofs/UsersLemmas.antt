@@ -23,12 +23,12 @@ use Rattle.ic_parts.specs.Whole.{whole_of}
 use Rattle.ic_parts.specs.declared.error.BookError.{BookError}
 use Rattle.ic_machine.specs.Book.{Book, Stepped, notations_in}
 use Rattle.ic_machine.specs.Refusal.{Refusal}
-use Rattle.ic_run.proofs.DeskLemmas.{empty_list}
 use Rattle.ic_share.specs.Share.{IsKnown, languages_held, shared_by}
 use Rattle.ic_share.specs.Shared.{in_language}
 use Rattle.ic_share.specs.Users.{user_of}
 use Rattle.ic_machine.specs.Reply.{Field, TextField, text_field}
 use Rattle.ic_machine.specs.subjects.Notation.{get_language_step, set_language_step}
+use Rattle.ic_pool.proofs.PlaceLemmas.{no_items as empty_list}
 
 -- the language that a book tells is the one in force
 abbrev field_text_of : List Field → List ℕ

@@ -1,6 +1,5 @@
 -- A formula is written into a cell: the places of cells as the code has them, and what stands where then.
 use Rattle.std.proofs.Common.{◌≡◌, ◌∙◌, ℕ, ℤ, SFits, to_z, of_z, w32, Some, None, Bool, true, is_some, Option, sym, ap, ap₂, subst}
-use Rattle.std.proofs.lemmas.Int.{to_z-of_z}
 use Rattle.std.specs.FinMap as finite
 use Rattle.std.specs.Prelude.{option_and_then}
 use Rattle.ic_laws.specs.CoreBook.{CellPlace}
@@ -18,10 +17,7 @@ use Rattle.ic_sheets.specs.Sheet.{IsWritten, MakesCell, TakesCell, WritesNew, fo
 use Rattle.ic_sheets.specs.declared.sheet.Entered.{Entered}
 use Rattle.ic_sheets.specs.declared.sheet.FormulaKind.{FormulaKind}
 use Rattle.ic_sheets.specs.declared.sheet.Sheet.{Sheet}
-
--- a row and a column as they are stored
-pub stored_pair : (r c : ℤ) → SFits w32 r → SFits w32 c → ◌≡◌ {A = ℤ × ℤ} (to_z w32 (of_z w32 r), to_z w32 (of_z w32 c)) (r, c)
-stored_pair r c fits fits_too = ap₂ (λ (x y : ℤ). (x, y)) (to_z-of_z w32 r fits) (to_z-of_z w32 c fits_too)
+use Rattle.ic_cells.proofs.MapLemmas.{stored_pair}
 
 -- a block as it is stored
 pub stored_block : (row column width height : ℤ) → SFits w32 row → SFits w32 column → SFits w32 width → SFits w32 height

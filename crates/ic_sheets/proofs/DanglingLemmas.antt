@@ -14,7 +14,7 @@ use Rattle.ic_sheets.proofs.SearchLemmas.{ids}
 use Rattle.ic_sheets.specs.Index.{AreDangling, dangles, dangles_at, is_id, is_listed}
 use Rattle.ic_sheets.specs.declared.sheet.Sheet.{Sheet}
 
-or_exchange : (a b c : Bool) → (a || (b || c)) ≡ (b || (a || c))
+pub or_exchange : (a b c : Bool) → (a || (b || c)) ≡ (b || (a || c))
 or_exchange true true c = refl
 or_exchange true false c = refl
 or_exchange false true c = refl

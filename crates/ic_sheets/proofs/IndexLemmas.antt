@@ -1,12 +1,10 @@
 -- What a plain search finds as sheets come, go and change their names, and that an index keeps up with it.
 use Rattle.std.proofs.Common.{◌≡◌, ℕ, zero, suc, ◌<◌, List, [], ◌∷◌, ◌++◌, Bool, true, false, cond, Option, Some, None, refl, sym, ap, ap₂, subst, ◌∙◌, append-nil, take, drop, length, get_or, slice_set, encode_utf8_all, String, bytes_eq, arith}
-use Rattle.std.specs.Bool.{one_answer}
 use Rattle.std.specs.List.{AllByRecursion, IsDistinct, remove}
 use Rattle.std.specs.List.Sorted.{IsPermutation}
 use Rattle.std.specs.Map.{lookup}
 use Rattle.std.specs.BTreeMap.{BTreeMap, get_by_text, IsEmpty}
 use Rattle.std.specs.declared.alloc.Global.{Global}
-use Rattle.std.proofs.lemmas.Str.{encodes_same}
 use Rattle.std.proofs.lemmas.Slice.Eq.{bytes_eq-Decides}
 use Rattle.std.proofs.lemmas.List.Sorted.{IsPermutation-middle, IsPermutation-sym, IsPermutation-map}
 use Rattle.std.proofs.lemmas.Map.Keys.{IsDistinct-head, IsDistinct-tail, IsDistinct-cons, IsDistinct-IsPermutation}
@@ -16,6 +14,9 @@ use Rattle.ic_sheets.specs.Search.{id_of}
 use Rattle.ic_sheets.specs.Index.{FindsSheets}
 use Rattle.ic_sheets.proofs.SearchLemmas.{ids, names}
 use Rattle.ic_laws.specs.CoreStep.{updated_at}
+use Rattle.ic_cells.proofs.TextLemmas.{same_bytes as same_encoded}
+use Rattle.ic_pool.proofs.KeyLemmas.{clash}
+use Rattle.ic_laws.proofs.General.{bytes_eq-flip, either_order as swap_choices, clear_cause as not_taken}
 
 abbrev pub Index : Type 0
 Index = BTreeMap (String Global) ℕ
@@ -27,34 +28,10 @@ pub record IsIndexed (index : Index) (sheets : List Sheet) : Type 0 where
 
 -- ---- equality of keys
 
--- texts are equal exactly where their bytes are
-pub same_encoded : (a b : List ℕ) → bytes_eq (encode_utf8_all a) (encode_utf8_all b) ≡ bytes_eq a b
-same_encoded a b =
-    one_answer _ _ (bytes_eq-Decides (encode_utf8_all a) (encode_utf8_all b))
-    ((λ e. ap encode_utf8_all ((bytes_eq-Decides a b).0 e)), (λ e. (bytes_eq-Decides a b).1 (encodes_same a b e)))
-
-pub bytes_eq-flip : (a b : List ℕ) → bytes_eq a b ≡ bytes_eq b a
-bytes_eq-flip a b = one_answer _ _ (bytes_eq-Decides a b) ((λ e. sym ((bytes_eq-Decides b a).0 e)), (λ e. (bytes_eq-Decides b a).1 (sym e)))
-
 pub agrees-flip : (a b : List ℕ) → agrees a b ≡ agrees b a
 agrees-flip a b = bytes_eq-flip (fold a) (fold b)
 
 -- ---- choices
-
--- two choices that are never both taken may be made in either order
-pub swap_choices : {X : Type 0} (t b : Bool) (u v r : X) → (t ≡ true → b ≡ true → ⊥) → cond t u (cond b v r) ≡ cond b v (cond t u r)
-swap_choices true true u v r h = absurd (h refl refl)
-swap_choices true false u v r h = refl
-swap_choices false true u v r h = refl
-swap_choices false false u v r h = refl
-
-not_taken : {X : Type 0} (b : Bool) (u : X) (r : Option X) → cond b (Some u) r ≡ None → (b ≡ false) × (r ≡ None)
-not_taken true u r e = cc
-not_taken false u r e = (refl, e)
-
-pub clash : (b : Bool) → b ≡ true → b ≡ false → ⊥
-clash true e f = cc
-clash false e f = cc
 
 -- ---- the plain search
 

@@ -1,5 +1,5 @@
 -- An item that is put in among others: what stands where, what becomes of it there, and that it can be taken out again.
-use Rattle.std.proofs.Common.{◌≡◌, ℕ, zero, suc, ◌<◌, ◌≤◌, List, [], ◌∷◌, ◌++◌, Bool, Some, map, length, refl, sym, ap, ap₂, ◌∙◌, arith}
+use Rattle.std.proofs.Common.{◌≡◌, ℕ, zero, suc, ◌<◌, ◌≤◌, List, [], ◌∷◌, ◌++◌, Bool, Some, length, refl, sym, ap, ap₂, ◌∙◌, arith}
 use Rattle.std.proofs.lemmas.List.Edits.{insert_end}
 use Rattle.std.specs.List.{AllByRecursion, insert, remove, slice_get}
 use Rattle.ic_laws.proofs.core.Lists.{updated_seen}
@@ -51,12 +51,6 @@ module _ {X : Type 0} where
   moved_among old between new last index x end pushed moves =
       moves ∙ ap₂ (λ n xs. moved n index xs) end (pushed ∙ sym (inserted_last old (length old) x refl))
       ∙ ap₂ (put_back index) (inserted_removed old (length old) x (omega arith)) (got_inserted old (length old) x (omega arith))
-
--- the items are seen by a function
-pub inserted_seen : {X Y : Type 0} (g : X → Y) (xs : List X) (index : ℕ) (x : X) → map g (insert xs index x) ≡ insert (map g xs) index (g x)
-inserted_seen g xs zero x = refl
-inserted_seen g [] (suc index) x = refl
-inserted_seen {Y} g (y ∷ xs) (suc index) x = ap (λ (zs : List Y). g y ∷ zs) (inserted_seen g xs index x)
 
 -- ---- a sheet that was put in is filled
 

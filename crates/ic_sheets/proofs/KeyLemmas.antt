@@ -15,12 +15,13 @@ use Rattle.std.specs.String.{string_cmp}
 use Rattle.std.specs.declared.cmp.Ordering.TheVariants.{Less}
 use Rattle.std.specs.declared.alloc.Global.{Global}
 use Rattle.ic_laws.specs.Name.{agrees, fold}
-use Rattle.ic_sheets.proofs.IndexLemmas.{Index, alone, id_of-middle, same_encoded, split_at}
+use Rattle.ic_sheets.proofs.IndexLemmas.{Index, alone, id_of-middle, split_at}
 use Rattle.ic_sheets.proofs.PlaceLemmas.{alone as alone_by_id}
 use Rattle.ic_sheets.proofs.SearchLemmas.{ids, names}
 use Rattle.ic_sheets.specs.Index.{AreKept, FindsSheets, IsFoundBy, LosesName, other_than}
 use Rattle.ic_sheets.specs.Search.{id_of}
 use Rattle.ic_sheets.specs.declared.sheet.Sheet.{Sheet}
+use Rattle.ic_cells.proofs.TextLemmas.{same_bytes as same_encoded}
 
 -- a key is these bytes
 abbrev is_key : List ℕ → String Global → Bool

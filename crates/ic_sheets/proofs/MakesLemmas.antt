@@ -15,7 +15,6 @@ use Rattle.ic_pool.specs.Remade.{Remade, TouchesAbout}
 use Rattle.ic_pool.specs.Rewrites.{RewritesState}
 use Rattle.ic_pool.specs.Topics.{SparesOthers, mentions_some}
 use Rattle.ic_sheets.proofs.DanglingLemmas.{absent, dangles_here, id_here, or_false, or_true}
-use Rattle.ic_sheets.proofs.IndexLemmas.{clash}
 use Rattle.ic_sheets.proofs.PlaceLemmas.{alone, some_apart}
 use Rattle.ic_sheets.proofs.RewritingLemmas.{and_true, looked_up, pool_stays, pool_untouched}
 use Rattle.ic_sheets.proofs.SearchLemmas.{ids}
@@ -24,6 +23,7 @@ use Rattle.ic_sheets.specs.Mentioners.{AreAbout}
 use Rattle.ic_sheets.specs.Rewriting.{FitsSheet, IsPrepared, ListsIf, Makes, PreparesEach, SparesElsewhere, changed_pool, look_ups, looks_up_after, own_rewrites, rewritten_if, sheets_of, with_own_rewrites}
 use Rattle.ic_sheets.specs.Sheet.{Sheet, sheet_of}
 use Rattle.ic_sheets.specs.declared.sheet.Sheet.{Sheet as HeldSheet}
+use Rattle.ic_pool.proofs.KeyLemmas.{clash}
 
 abbrev pub Own : Type 0
 Own = List (ℕ × RewritesState)

@@ -21,7 +21,6 @@ use Rattle.ic_pool.specs.Rewrites.{changed_by}
 use Rattle.ic_pool.specs.Topics.{mentions_some}
 use Rattle.ic_pool.specs.declared.pool.rewrites.Replacement.{Replacement}
 use Rattle.ic_sheets.proofs.DanglingLemmas.{id_here}
-use Rattle.ic_sheets.proofs.IndexLemmas.{clash}
 use Rattle.ic_sheets.proofs.InsertLemmas.{all_inserted}
 use Rattle.ic_sheets.proofs.PartLemmas.{part_same}
 use Rattle.ic_sheets.proofs.PlaceLemmas.{alone, place_middle}
@@ -36,6 +35,7 @@ use Rattle.ic_sheets.specs.Sheet.{IsArrayWritten, IsWritten, sheet_of}
 use Rattle.ic_sheets.specs.declared.mentioners.Mentioners.{Mentioners}
 use Rattle.ic_sheets.specs.declared.sheet.FormulaKind.{FormulaKind}
 use Rattle.ic_sheets.specs.declared.sheet.Sheet.{Sheet}
+use Rattle.ic_pool.proofs.KeyLemmas.{clash}
 
 -- ---- what is known stays known
 

@@ -10,9 +10,9 @@ use Rattle.ic_laws.proofs.core.Lists.{removed_seen, updated_unseen}
 use Rattle.ic_laws.specs.Changes.{Change}
 use Rattle.ic_laws.specs.CoreStep.{updated_at}
 use Rattle.ic_pool.specs.Rewrites.{FitsPool, RewritesState}
-use Rattle.ic_sheets.proofs.IndexLemmas.{clash, set_parts, split_at}
+use Rattle.ic_sheets.proofs.IndexLemmas.{set_parts, split_at}
 use Rattle.ic_pool.proofs.PlaceLemmas.{inserted_passes}
-use Rattle.ic_sheets.proofs.InsertLemmas.{all_inserted, inserted_seen}
+use Rattle.ic_sheets.proofs.InsertLemmas.{all_inserted}
 use Rattle.ic_sheets.proofs.MakesLemmas.{Own, own_ids, own_new, own_none, own_other}
 use Rattle.ic_sheets.proofs.PlaceLemmas.{alone, some_apart}
 use Rattle.ic_sheets.proofs.RewritingLemmas.{called, sheet_called, sheets_called}
@@ -22,6 +22,8 @@ use Rattle.ic_sheets.specs.Rewriting.{FitOwn, FitsSheet, Makes, changed_pool, lo
 use Rattle.ic_sheets.specs.Search.{index_with_id}
 use Rattle.ic_sheets.specs.Sheet.{sheet_of}
 use Rattle.ic_sheets.specs.declared.sheet.Sheet.{Sheet as HeldSheet}
+use Rattle.ic_pool.proofs.KeyLemmas.{clash}
+use Rattle.ic_laws.proofs.General.{insert-map as inserted_seen}
 
 -- ---- done from the last one on
 

@@ -1,7 +1,7 @@
 -- Where the sheets stand by their ids, as sheets come, go and move, and that a look-up keeps up with it.
 use Rattle.std.proofs.Common.{◌≡◌, ℕ, suc, ◌<◌, ◌≤◌, ◌+◌, List, [], ◌∷◌, ◌++◌, Bool, true, false, cond, ◌||◌, Option, Some, None, option_map, is_some, map, max, refl, sym, ap, ap₂, subst, ◌∙◌, length, take, drop, get_or, nat_eq, remove, arith}
 use Rattle.std.specs.Cmp.{nat_eq_equiv}
-use Rattle.std.specs.List.{AllByRecursion, IsDistinct, find, insert, list_any, position, position_from, slice_get}
+use Rattle.std.specs.List.{AllByRecursion, IsDistinct, find, insert, list_any, position, slice_get}
 use Rattle.std.specs.Option.{option_and_then}
 use Rattle.std.proofs.lemmas.Bool.{eq-eqb, eqb-true, or_parts}
 use Rattle.std.proofs.lemmas.Iterator.Adapters.{position_from-zero}
@@ -15,19 +15,13 @@ use Rattle.ic_sheets.specs.Spots.{index_at, lowered, moved_index, raised, renumb
 use Rattle.ic_sheets.specs.declared.sheet.Sheet.{Sheet}
 use Rattle.ic_sheets.specs.declared.sheets.spots.Spot.{Spot}
 use Rattle.ic_sheets.specs.declared.sheets.spots.Spots.{Spots}
-use Rattle.ic_sheets.proofs.IndexLemmas.{clash, split_at}
+use Rattle.ic_sheets.proofs.IndexLemmas.{split_at}
 use Rattle.ic_sheets.proofs.SearchLemmas.{ids}
 use Rattle.ic_sheets.proofs.SpotLemmas.{replaced}
+use Rattle.ic_pool.proofs.KeyLemmas.{clash}
+use Rattle.ic_laws.proofs.General.{counted_later, swap_places as either_first}
 
 -- ---- the plain search
-
-counted_later : {X : Type 0} (p : X → Bool) (at : ℕ) (xs : List X) → position_from p (at + 1) xs ≡ option_map suc (position_from p at xs)
-counted_later p at [] = refl
-counted_later {X} p at (x ∷ xs) = step (p x) (counted_later p (at + 1) xs)
-  where
-    step : (b : Bool) → position_from p (at + 1 + 1) xs ≡ option_map suc (position_from p (at + 1) xs) → cond b (Some (at + 1)) (position_from p (at + 1 + 1) xs) ≡ option_map suc (cond b (Some at) (position_from p (at + 1) xs))
-    step true e = ap (λ n. Some n) (let next : at + 1 ≡ suc at = omega arith in next)
-    step false e = e
 
 abbrev has_id : ℕ → Sheet → Bool
 has_id id s = nat_eq s.id id
@@ -78,12 +72,6 @@ no_place id [] e = refl
 no_place id (s ∷ sheets) e =
     let parts = or_parts (nat_eq id s.id) (list_any (nat_eq id) (ids sheets)) e in
     ap₂ (λ b place. cond b (Some 0) (option_map suc place)) (nat_eq_equiv.symm s.id id ∙ parts.0) (no_place id sheets parts.1)
-
-either_first : (b c : Bool) (n : ℕ) (place : Option ℕ) → (b ≡ true → c ≡ true → ⊥) → cond b (Some 0) (option_map suc (cond c (Some n) place)) ≡ cond c (Some (suc n)) (cond b (Some 0) (option_map suc place))
-either_first true true n place h = absurd (h refl refl)
-either_first true false n place h = refl
-either_first false true n place h = refl
-either_first false false n place h = refl
 
 place_pushed : (s : Sheet) (sheets : List Sheet) → list_any (nat_eq s.id) (ids sheets) ≡ false → (q : ℕ) → index_with_id q (sheets ++ s ∷ []) ≡ cond (nat_eq s.id q) (Some (length sheets)) (index_with_id q sheets)
 place_pushed s [] free q = refl

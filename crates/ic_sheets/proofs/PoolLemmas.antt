@@ -24,6 +24,7 @@ use Rattle.ic_sheets.specs.Sheet.{Sheet, cell_of, cells_of, formula_in, kept_poo
 use Rattle.ic_pool.proofs.PlacedLemmas.{first_found}
 use Rattle.ic_pool.specs.Code.{code}
 use Rattle.ic_pool.specs.Pool.{EndsWithNew, IsPlaced, first_place}
+use Rattle.ic_laws.proofs.General.{in_front as got_in_front}
 
 -- formulas that are replaced, each by its own ----
 
@@ -77,11 +78,6 @@ got_within : {X : Type 0} (xs : List X) (at : ℕ) (x : X) → slice_get xs at �
 got_within [] at x e = cc
 got_within (y ∷ xs) zero x e = omega arith
 got_within (y ∷ xs) (suc at) x e = let lt = got_within xs at x e in omega arith
-
-got_in_front : {X : Type 0} (xs ys : List X) (at : ℕ) → at < length xs → slice_get (xs ++ ys) at ≡ slice_get xs at
-got_in_front [] ys at lt = absurd (omega arith)
-got_in_front (x ∷ xs) ys zero lt = refl
-got_in_front (x ∷ xs) ys (suc at) lt = got_in_front xs ys at (omega arith)
 
 split_at : (m n : ℕ) → (m < n) ⊎ (n ≤ m)
 split_at m zero = inr (omega arith)

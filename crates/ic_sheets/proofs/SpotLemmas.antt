@@ -7,7 +7,7 @@ use Rattle.std.proofs.lemmas.Bool.{eq-eqb, eqb-true, ltb-false, ltb-true}
 use Rattle.ic_laws.specs.Greatest.{greatest}
 use Rattle.ic_sheets.specs.Spots.{Rise, index_at, with_indexes}
 use Rattle.ic_sheets.specs.declared.sheets.spots.Spot.{Spot}
-use Rattle.ic_sheets.proofs.IndexLemmas.{swap_choices}
+use Rattle.ic_laws.proofs.General.{either_order as swap_choices}
 
 apart : (a b : ℕ) → (a ≡ b → ⊥) → nat_eq a b ≡ false
 apart a b h = step (nat_eq a b) refl

@@ -13,7 +13,7 @@ use Rattle.ic_grid.proofs.ContentsLemmas.{get-remade, same_contents}
 use Rattle.ic_grid.specs.Block.{Place, same_place}
 use Rattle.ic_grid.specs.Contents.{Contents}
 use Rattle.ic_grid.specs.Value.{is_cse_anchor, shape_at, valued, valued_cell}
-use Rattle.ic_machine.proofs.AlikeGrid.{entries-seen, get-seen}
+use Rattle.ic_machine.proofs.contents.AlikeGrid.{entries-seen, get-seen}
 use Rattle.ic_machine.specs.Alike.{seen_by}
 use Rattle.ic_machine.specs.Book.{Book, Entry, Grid, Sheet, Stepped, core_cells, core_entry, core_of, core_sheet, found_or, on_grid, put_in, unless, with_sheet}
 use Rattle.ic_machine.specs.Content.{AnchorContent, BoolContent, Content, EmptyContent, ErrContent, FormulaContent, NumContent, SpillContent, TextContent, held}
@@ -21,7 +21,7 @@ use Rattle.ic_machine.specs.Refusal.{InvalidSheet, Refusal}
 use Rattle.ic_machine.specs.Reply.{Field}
 use Rattle.ic_machine.specs.subjects.Arrays.{PutFormulaValue, arrays_step, put_value_step, with_grid_contents}
 use Rattle.ic_sums.specs.Evaluated.{OnlyValues, held_at, is_plain, unvalued, unvalued_sheet, without_values}
-use Rattle.ic_machine.proofs.ValidLemmas.{unseen_put as unseen_there}
+use Rattle.ic_machine.proofs.valid.ValidLemmas.{unseen_put as unseen_there}
 
 -- one content ----
 

@@ -17,6 +17,7 @@ use Rattle.ucd_case.specs.CaseFolding.{full_fold}
 use Rattle.caseless.specs.Caseless.{default_case_fold}
 use Rattle.ic_laws.specs.Name.{fold}
 use Rattle.ic_tables.specs.Order.{ComparesBy, FoldsFront, FoldsNoFront}
+use Rattle.ic_laws.proofs.FoldLaws.{fold-cons}
 
 -- the folding of an ASCII character is its lower case
 folds_low : ℕ → Bool
@@ -33,10 +34,6 @@ full_fold-ascii c h = (bytes_eq-Decides (full_fold c) (to_ascii_lowercase c ∷ 
 pub fold-nil : fold [] ≡ []
 unfolding default_case_fold
 fold-nil = refl
-
-pub fold-cons : (c : ℕ) (cs : List ℕ) → fold (c ∷ cs) ≡ full_fold c ++ fold cs
-unfolding default_case_fold
-fold-cons c cs = refl
 
 same_cmp : (c : ℕ) → nat_cmp c c ≡ Equal
 same_cmp c = tied_itself nat_cmp_total c

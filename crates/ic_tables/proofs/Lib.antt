@@ -1,10 +1,10 @@
 pub mod CompareLemmas
-mod FoldLemmas
+pub mod FoldLemmas
 mod ListLemmas
-mod LiteralLemmas
+pub mod LiteralLemmas
 pub mod Lookups
 pub mod OrderLemmas
 mod PlaceLemmas
-mod SampleLemmas
+pub mod SampleLemmas
 pub mod WellFormed
 pub mod WordLemmas

@@ -48,21 +48,21 @@ unfolding sample english_words spanish_words french_words german_words italian_w
 booleans_told = refl
 
 -- 7 and 8, where each word is folded once
-all_alike : (p q : Language → Bool) → ((l : Language) → q l ≡ p l) → (ls : List Language) → list_all q ls ≡ list_all p ls
+pub all_alike : (p q : Language → Bool) → ((l : Language) → q l ≡ p l) → (ls : List Language) → list_all q ls ≡ list_all p ls
 all_alike p q e [] = refl
 all_alike p q e (l ∷ ls) = ap₂ ◌&&◌ (e l) (all_alike p q e ls)
 
-unfoldable functions_apart : Language → Bool
+unfoldable pub functions_apart : Language → Bool
 functions_apart l = list_all has_function_shape l.functions.words && are_different (map fold l.functions.words)
 
-unfoldable errors_apart : Language → Bool
+unfoldable pub errors_apart : Language → Bool
 errors_apart l = list_all has_error_shape (error_words l) && are_different (map fold (error_words l))
 
-functions_alike : (l : Language) → has_function_words l ≡ functions_apart l
+pub functions_alike : (l : Language) → has_function_words l ≡ functions_apart l
 unfolding has_function_words functions_apart
 functions_alike l = ap (λ b. list_all has_function_shape l.functions.words && b) (no_two_by_folding l.functions.words)
 
-errors_alike : (l : Language) → has_error_words l ≡ errors_apart l
+pub errors_alike : (l : Language) → has_error_words l ≡ errors_apart l
 unfolding has_error_words errors_apart
 errors_alike l = ap (λ b. list_all has_error_shape (error_words l) && b) (no_two_by_folding (error_words l))
 
@@ -102,7 +102,7 @@ dates : have_dates sample.locales ≡ true
 unfolding sample words_in chars has_dates sign signs.symbols signs.numbers signs.dates signs.formats_by_length signs.currency
 dates = refl
 
-all_pass : (a b c d e f g h i j k l m : Bool) → a ≡ true → b ≡ true → c ≡ true → d ≡ true → e ≡ true → f ≡ true → g ≡ true → h ≡ true → i ≡ true → j ≡ true → k ≡ true → l ≡ true → m ≡ true
+pub all_pass : (a b c d e f g h i j k l m : Bool) → a ≡ true → b ≡ true → c ≡ true → d ≡ true → e ≡ true → f ≡ true → g ≡ true → h ≡ true → i ≡ true → j ≡ true → k ≡ true → l ≡ true → m ≡ true
     → first_false 1 (a ∷ b ∷ c ∷ d ∷ e ∷ f ∷ g ∷ h ∷ i ∷ j ∷ k ∷ l ∷ m ∷ []) ≡ None
 all_pass a b c d e f g h i j k l m pa pb pc pd pe pf pg ph pi pj pk pl pm = rw (pa, pb, pc, pd, pe, pf, pg, ph, pi, pj, pk, pl, pm) refl
 

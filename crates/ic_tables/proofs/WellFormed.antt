@@ -1,13 +1,11 @@
 -- What tables that meet every condition have: each condition as a fact, for the crates above.
-use Rattle.std.proofs.Common.{◌≡◌, ℕ, suc, ◌+◌, List, [], ◌∷◌, Bool, true, false, not, ◌&&◌, ◌||◌, ◌==◌, nat_lt, Option, Some, None, Result, Ok, Err, MatchResult, IfOk, Bor, bytes_eq, cond, codes, find, is_some, length, map, option_map, refl, suc-le-suc, zero-lt-suc, sym, ap, subst, ◌∙◌, arith}
-use Rattle.std.proofs.lemmas.Bool.{and_from, and_parts, eqb-true, not-true, or_parts}
-use Rattle.std.proofs.Math.ListN.{length-map}
-use Rattle.std.proofs.lemmas.List.{get_or-map}
+use Rattle.std.proofs.Common.{◌≡◌, ℕ, suc, ◌+◌, List, [], ◌∷◌, Bool, true, false, not, ◌&&◌, ◌||◌, nat_lt, Option, Some, None, Result, Ok, Err, MatchResult, IfOk, Bor, bytes_eq, cond, codes, find, is_some, length, option_map, refl, suc-le-suc, zero-lt-suc, sym, ap, subst, ◌∙◌, arith}
+use Rattle.std.proofs.lemmas.Bool.{and_from, and_parts, not-true, or_parts}
 use Rattle.std.proofs.lemmas.List.Sums.{AllPass-from_list_all}
 use Rattle.std.proofs.lemmas.Slice.Eq.{bytes_eq-Decides}
 use Rattle.std.specs.Option.{IfSome}
 use Rattle.std.specs.List.{AllByRecursion, AllPass, IsAmong, IsDistinct, list_all, list_any, slice_get}
-use Rattle.ic_laws.specs.Name.{agrees, fold}
+use Rattle.ic_laws.specs.Name.{agrees}
 use Rattle.ic_tables.specs.Formats.{has_dates, has_group, has_separators, has_symbol}
 use Rattle.ic_tables.proofs.Lookups.{is_some-option_map}
 use Rattle.ic_tables.specs.declared.language.Language.{Language}
@@ -77,7 +75,7 @@ found_among : {X : Type 0} (p : X → Bool) (xs : List X) (x : X) → find p xs 
 found_among p [] x h = absurd (cc)
 found_among p (y ∷ ys) x h = found_here p y x ys (p y) refl h (found_among p ys x)
 
-bytes_same : (a b : List ℕ) → bytes_eq a b ≡ true → a ≡ b
+pub bytes_same : (a b : List ℕ) → bytes_eq a b ≡ true → a ≡ b
 bytes_same a b h = (bytes_eq-Decides a b).0 h
 
 -- the language of a code is one of them, and has this code
@@ -125,17 +123,6 @@ pub record Numbers (count : ℕ) (l : Language) : Type 0 where
   pub words : length l.functions.words ≡ count
   pub below : AllPass (λ n. nat_lt n count) (named_numbers l)
   pub apart : differ (named_numbers l) ≡ true
-
-numbers_parts : (count : ℕ) (l : Language) → numbers_functions count l ≡ true → Numbers count l
-unfolding numbers_functions
-numbers_parts count l h =
-    let outer = and_parts (length l.functions.words == count && list_all (λ n. nat_lt n count) (named_numbers l)) (differ (named_numbers l)) h in
-    let inner = and_parts (length l.functions.words == count) (list_all (λ n. nat_lt n count) (named_numbers l)) outer.0 in
-    record {
-      words = eqb-true _ _ inner.0;
-      below = AllPass-from_list_all (λ n. nat_lt n count) (named_numbers l) inner.1;
-      apart = outer.1;
-    }
 
 shared_with_first : (first : Language) (others : List Language) → share_numbers (first ∷ others) ≡ true → (l : Language) → IsAmong (first ∷ others) l → named_numbers l ≡ named_numbers first
 unfolding share_numbers
@@ -207,21 +194,6 @@ distinct [] h = tt
 distinct (w ∷ ws) h =
     let parts = and_parts (not (list_any (agrees w) ws)) (no_two_agree ws) h in
     (none_agrees (agrees w) ws (not-true _ parts.0), distinct ws parts.1)
-
--- each word looks as it has to, and no two agree
-pub record GoodWords (looks : List ℕ → Bool) (words : List (List ℕ)) : Type 0 where
-  pub forms : AllPass looks words
-  pub apart : IsDistinct agrees words
-
-looking_words : (looks : List ℕ → Bool) (words : List (List ℕ)) → (list_all looks words && no_two_agree words) ≡ true → GoodWords looks words
-looking_words looks words h =
-    let parts = and_parts (list_all looks words) (no_two_agree words) h in
-    record { forms = AllPass-from_list_all looks words parts.0; apart = distinct words parts.1 }
-
--- ---- 9
-
-folded_among : (words : List (List ℕ)) (a : List ℕ) → IsAmong words a → IsAmong (map fold words) (fold a)
-folded_among words a among = (among.0, (rw length-map among.1.0, ap fold among.1.1 ∙ sym (get_or-map fold words among.0 a (fold a) among.1.0)))
 
 -- ---- of one language, all together
 

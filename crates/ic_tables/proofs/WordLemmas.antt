@@ -13,7 +13,7 @@ passes_at p [] n x h e = absurd (cc)
 passes_at p (y ∷ ys) zero x h e = let same : y ≡ x = cc in subst (λ z. p z ≡ true) same (and_parts (p y) (list_all p ys) h).0
 passes_at p (y ∷ ys) (suc n) x h e = passes_at p ys n x (and_parts (p y) (list_all p ys) h).1 e
 
-none_at : {X : Type 0} (p : X → Bool) (xs : List X) (n : ℕ) (x : X) → list_any p xs ≡ false → slice_get xs n ≡ Some x → p x ≡ false
+pub none_at : {X : Type 0} (p : X → Bool) (xs : List X) (n : ℕ) (x : X) → list_any p xs ≡ false → slice_get xs n ≡ Some x → p x ≡ false
 none_at p [] n x h e = absurd (cc)
 none_at p (y ∷ ys) zero x h e = let same : y ≡ x = cc in subst (λ z. p z ≡ false) same (or_parts (p y) (list_any p ys) h).0
 none_at p (y ∷ ys) (suc n) x h e = none_at p ys n x (or_parts (p y) (list_any p ys) h).1 e
@@ -56,7 +56,7 @@ finds_alike (w ∷ ws) a b h =
     rw same (elim (cases_Bool (agrees w b)) [ inl t ↦ rw t refl | inr f ↦ rw f (ap (option_map (λ n. suc n)) (finds_alike ws a b h)) ])
 
 -- a word begins no other
-eqb_itself : (n : ℕ) → (n == n) ≡ true
+pub eqb_itself : (n : ℕ) → (n == n) ≡ true
 eqb_itself n = grind (arith, nat_tests)
 
 pub proper_prefix : (a : List ℕ) (c : ℕ) (cs : List ℕ) → is_proper_prefix a (a ++ c ∷ cs) ≡ true

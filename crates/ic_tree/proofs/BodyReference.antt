@@ -21,9 +21,10 @@ use Rattle.ic_refs.specs.declared.error.ReferenceError.{ReferenceError}
 use Rattle.ic_refs.specs.declared.error.ReferenceError.TheVariants as errors
 use Rattle.ic_refs.specs.declared.reference.ParsedReference.{ParsedReference}
 use Rattle.ic_tables.specs.Tables.{IsWellFormed, TableSet, language_of, locale_of}
-use Rattle.ic_tree.proofs.ClashLemmas.{shown_as, there}
+use Rattle.ic_tree.proofs.ClashLemmas.{shown_as}
 use Rattle.ic_tree.proofs.NotationLaws.{notations_are}
 use Rattle.ic_tree.specs.Notations.{notations_of}
+use Rattle.ic_laws.proofs.General.{some_there as there}
 
 -- two readings leave the same
 abbrev Alike : {X Y : Type 0} → Option (X × List ℕ) → Option (Y × List ℕ) → Type 0

@@ -29,6 +29,7 @@ use Rattle.ic_tables.specs.Formats.{decimal_separator}
 use Rattle.ic_tree.specs.Shown.{list_separator, shown_meaning}
 use Rattle.ic_tree.specs.Stored.{stored_meaning}
 use Rattle.ic_tree.specs.laws.LanguageLaws.{law_finds_agreeing}
+use Rattle.ic_laws.proofs.General.{some_there as there}
 
 -- where neither of two is there, the first of them isn't
 none_first : (a b : Option ℕ) → is_some a ≡ false → IsNone b → IsNone (or_else a b)
@@ -58,10 +59,6 @@ language_tells n notations l e stored list decimal row column = record {
   boolean_by_fold = λ a b same. ap is_some (law_finds_agreeing l kinds.Boolean a b same);
   function_by_fold = λ a b same. ap is_some (law_finds_agreeing l kinds.Function a b same);
 }
-
-pub there : {X : Type 0} (o : Option X) → is_some o ≡ true → (x : X) × (o ≡ Some x)
-there None h = absurd (cc)
-there (Some x) h = (x, refl)
 
 -- the form in a language, English and a locale that are there
 pub shown_as : (language beside : Option Language) (locale : Option NamedLocale) (l e : Language) (named : NamedLocale) → language ≡ Some l → beside ≡ Some e → locale ≡ Some named → (row column : ℤ)

@@ -16,9 +16,10 @@ use Rattle.ic_laws.specs.declared.dialect.WordKind.TheVariants as kinds
 use Rattle.ic_laws.specs.declared.reference.RefToken.{RefToken}
 use Rattle.ic_laws.specs.declared.tree.Error.{Error}
 use Rattle.ic_laws.proofs.tokens.Kinds.{error_best, error_found}
-use Rattle.ic_laws.proofs.tokens.Splits.{mapped, none_or_some, split_sound}
+use Rattle.ic_laws.proofs.tokens.Splits.{mapped, split_sound}
 use Rattle.ic_laws.proofs.tokens.Words.{numbered_sound}
 use Rattle.ic_laws.proofs.printing.Words.{same_kind}
+use Rattle.ic_laws.proofs.parsing.ListFuelLemmas.{option_cases as none_or_some}
 
 -- the end of a text of characters is one
 scalars_rest : (front rest : List ℕ) → scalars (front ++ rest) ≡ true → scalars rest ≡ true

@@ -1,11 +1,10 @@
 -- Digits at the front of a text: at most so many of them, and the number that a whole part and a fraction write.
-use Rattle.std.proofs.Common.{◌≡◌, ℕ, ℤ, zero, suc, ◌+◌, ◌*◌, ◌-◌, ◌^◌, ◌<◌, List, [], ◌∷◌, ◌++◌, true, false, ◌&&◌, ◌==◌, nat_le, length, Option, Some, None, option_map, pos, refl, sym, ◌∙◌, ap, inl, inr, arith, add-one}
+use Rattle.std.proofs.Common.{◌≡◌, ℕ, ℤ, zero, suc, ◌+◌, ◌*◌, ◌-◌, ◌^◌, ◌<◌, List, [], ◌∷◌, ◌++◌, true, false, ◌==◌, length, Option, Some, None, option_map, pos, refl, sym, ◌∙◌, ap, inl, inr, arith, add-one}
 use Rattle.std.proofs.Math.Nat.{pow-suc}
-use Rattle.std.specs.Char.{digit_value}
 use Rattle.std.specs.List.{list_all}
 use Rattle.std.specs.Str.{all_ascii_digits}
 use Rattle.std.specs.Str.Parse.{digits_value}
-use Rattle.std.proofs.lemmas.Bool.{and_from, and_parts, cases_Bool}
+use Rattle.std.proofs.lemmas.Bool.{and_from, cases_Bool}
 use Rattle.std.proofs.lemmas.Bool.Decides.{eqb_tells, nat_tests}
 use Rattle.ic_laws.specs.Amount.{units_by, read_units, unsigned_amount}
 use Rattle.ic_laws.specs.AmountFront.{amount_front, digits_to, fraction_front, last_whole, number_in_one_pass, past_fraction, past_some, past_to, some_digits}
@@ -14,7 +13,7 @@ use Rattle.ic_laws.specs.Scan.{is_digit, past_run, run_of}
 use Rattle.ic_laws.specs.Token.{Token, Num}
 use Rattle.ic_tree.specs.Lexing.{fraction_run}
 use Rattle.ic_laws.proofs.tokens.Characters.{past_run_all, run_of_all}
-use Rattle.ic_laws.proofs.tokens.Numbers.{separator_apart}
+use Rattle.ic_laws.proofs.tokens.Numbers.{separator_apart, digits_all as all_whole}
 
 -- one digit more, and none
 pub some_first : (k c : ℕ) (cs : List ℕ) → 0 < k → is_digit c ≡ true → (some_digits k (c ∷ cs) ≡ c ∷ some_digits (k - 1) cs) × (past_some k (c ∷ cs) ≡ past_some (k - 1) cs)
@@ -54,14 +53,6 @@ all_some : (k : ℕ) (cs : List ℕ) → all_ascii_digits (some_digits k cs) ≡
 all_some zero cs = refl
 all_some (suc k) [] = refl
 all_some (suc k) (c ∷ cs) = elim (cases_Bool (is_digit c)) [ inl e ↦ rw e (and_from (is_digit c) (all_ascii_digits (some_digits k cs)) e (all_some k cs)) | inr e ↦ rw e refl ]
-
-pub all_whole : (most n : ℕ) (text : List ℕ) → list_all is_digit (digits_to most n text) ≡ true
-all_whole most n [] = refl
-all_whole most n (c ∷ cs) =
-    elim (cases_Bool (is_digit c && nat_le (n * 10 + digit_value c) most)) [
-      | inl e ↦ rw e (and_from (is_digit c) _ ((and_parts (is_digit c) _ e).0) (all_whole most (n * 10 + digit_value c) cs))
-      | inr e ↦ rw e refl
-    ]
 
 -- what a whole part and what stands at the front after it write
 front_units : (separator : ℕ) (whole after : List ℕ) → is_digit separator ≡ false → list_all is_digit whole ≡ true

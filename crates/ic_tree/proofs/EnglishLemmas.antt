@@ -8,7 +8,7 @@ use Rattle.ic_laws.specs.Binding.{BoundPair, bound_pair_of}
 use Rattle.ic_laws.specs.Clash.{clashes_step, clashes_with, mentioned_name, one_clashes, pair_clashes}
 use Rattle.ic_laws.specs.CoreBook.{CoreBook, scene_of}
 use Rattle.ic_laws.specs.Dialect.{DialectMeaning}
-use Rattle.ic_laws.specs.Name.{Agree, fold, is_identifier, is_variable}
+use Rattle.ic_laws.specs.Name.{Agree, fold, is_variable}
 use Rattle.ic_laws.specs.Notations.{AreNotations, Notations, english_function}
 use Rattle.ic_laws.specs.Scene.{definition_spelling}
 use Rattle.ic_laws.specs.Tree.{Bound, IsKindWell, IsPairWell, bound_names, is_word_mention}
@@ -29,7 +29,7 @@ use Rattle.ic_laws.proofs.binding.SceneLemmas.{spelled_alike}
 use Rattle.ic_laws.proofs.core.Named.{IsNamed, book_named}
 use Rattle.ic_laws.proofs.kept.Everywhere.{every_both}
 use Rattle.ic_laws.proofs.kept.Folded.{fold_again}
-use Rattle.ic_laws.proofs.kept.Kept.{english_by_fold, spelling_writes}
+use Rattle.ic_laws.proofs.kept.Kept.{english_by_fold, spelling_writes, identifier_word as identifier_is_variable}
 use Rattle.ic_laws.proofs.kept.Lifting.{BoundParts}
 use Rattle.ic_laws.proofs.kept.Stays.{CallStays, KeyStays, NameStays, Stays, settled_stays}
 use Rattle.ic_tables.specs.Tables.{IsWellFormed, TableSet, language_of}
@@ -107,9 +107,6 @@ module _ (is_boolean is_function : List ℕ → Bool) where
 
   none_clashes : (t : Bound) → Every Apart PairApart t → clashes_with is_boolean is_function t ≡ false
   none_clashes = by_nodes Clear PairClear node_clear pair_clear
-
-identifier_is_variable : (name : List ℕ) → is_identifier name ≡ true → is_variable name ≡ true
-identifier_is_variable name h = (and_parts (is_variable name) _ (and_parts _ _ (and_parts _ _ h).0).0).0
 
 -- the words of the stored form are those of English, and no node of a kept tree has one
 module _ (n : Notations) (notations : AreNotations n) (scene : Scene) (named : IsNamed scene) (scope : Option ℕ) where

@@ -18,15 +18,12 @@ use Rattle.ic_laws.proofs.tokens.NameReaders.{head_at_sound, word_at_sound}
 use Rattle.ic_laws.proofs.tokens.Lexing.{Begins, spelled_begins}
 use Rattle.ic_laws.proofs.tokens.Next.{ComesAfter, token_best}
 use Rattle.ic_laws.proofs.tokens.Numbers.{number_in_one_pass_best}
-use Rattle.ic_laws.proofs.tokens.Splits.{mapped, none_or_some}
+use Rattle.ic_laws.proofs.tokens.Splits.{mapped}
 use Rattle.ic_laws.proofs.printing.Signs.{mark_begins_none, no_error_first, no_number, not_decimal, or_neither, two_none}
-use Rattle.ic_laws.proofs.printing.Words.{keeps_first, start_kinds, starts, word_no_number}
+use Rattle.ic_laws.proofs.printing.Words.{keeps_first, start_kinds, starts, word_no_number, longer_none}
 use Rattle.ic_tree.proofs.LocalFirst.{no_local_start}
 use Rattle.ic_tree.specs.Lexing.{found, is_past_word, named_at}
-
-longer_none : (a : Option (Token × List ℕ)) → longer a None ≡ a
-longer_none None = refl
-longer_none (Some x) = refl
+use Rattle.ic_laws.proofs.parsing.ListFuelLemmas.{option_cases as none_or_some}
 
 -- what begins neither a word nor a reference
 plain_first : (d : DialectMeaning) → IsLawful d → (c : ℕ) (cs : List ℕ) → starts c ≡ false

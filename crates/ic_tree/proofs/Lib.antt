@@ -30,4 +30,4 @@ pub mod StoredLemmas
 pub mod Turning
 pub mod TypedLet
 pub mod WordLemmas
-mod machine
+pub mod machine

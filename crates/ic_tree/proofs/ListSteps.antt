@@ -31,11 +31,6 @@ pub passes_none : (past : Option (List Token)) (taken : Bool) (ts rest : List To
 passes_none past taken ts rest h is = subst (λ (b : Bool). Passes past b ts rest) is h
 
 module _ {A : Type 0} (item : List Token → Read A) (past : List Token → Option (List Token)) (shrinks : Shrinks item past) where
-  -- there is something to read an item from
-  some_tokens : (ts : List Token) (x : A) (rest : List Token) → item ts ≡ Some (x, rest) → 0 < length ts
-  some_tokens [] x rest got = let none : item [] ≡ None = shrinks.nothing in cc
-  some_tokens (t ∷ ts) x rest got = omega arith
-
   pub all_last : (ts : List Token) (x : A) (rest : List Token) → item ts ≡ Some (x, rest) → past rest ≡ None → all_listed item past ts ≡ Some (x ∷ [], rest)
   all_last [] x rest got stops = let none : item [] ≡ None = shrinks.nothing in cc
   all_last (t ∷ ts) x rest got stops = listed_last item past (length ts) (t ∷ ts) (x, rest) got stops

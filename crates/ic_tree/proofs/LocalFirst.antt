@@ -20,13 +20,14 @@ use Rattle.ic_laws.specs.Token.{Token, Local}
 use Rattle.ic_laws.specs.TokenKinds.{OfKind, head_at, head_before, is_local, local_at, word_at}
 use Rattle.ic_laws.specs.declared.dialect.WordKind.TheVariants as kinds
 use Rattle.ic_laws.proofs.tokens.Characters.{past_run_all}
-use Rattle.ic_laws.proofs.tokens.Locals.{bang_no_word, local_at_sound, local_sound, name_begins, no_local_other, no_local_without_bang}
+use Rattle.ic_laws.proofs.tokens.Locals.{bang_no_word, local_at_sound, local_sound, name_begins, no_local_other, no_local_without_bang, plain_words as all_words}
 use Rattle.ic_laws.proofs.tokens.SheetTexts.{all_plain, plain_read, written_other}
 use Rattle.ic_laws.proofs.printing.Signs.{no_number, not_decimal, or_neither}
 use Rattle.ic_laws.proofs.printing.Words.{keeps_first, starts, word_no_number}
 use Rattle.ic_tree.proofs.CutLemmas.{cut_after, reads_front}
-use Rattle.ic_laws.proofs.tokens.Splits.{front_in_front, mapped, none_or_some}
+use Rattle.ic_laws.proofs.tokens.Splits.{front_in_front, mapped}
 use Rattle.ic_tree.specs.Lexing.{IsPastLocal, named_at}
+use Rattle.ic_laws.proofs.parsing.ListFuelLemmas.{option_cases as none_or_some}
 
 -- what begins neither a word nor a reference begins none
 dot_quotes : (cs : List ℕ) → needs_quotes (46 ∷ cs) ≡ true
@@ -79,11 +80,6 @@ pub no_local_by_word : (text cs : List ℕ) (c : ℕ) → text ≡ c ∷ cs → 
 no_local_by_word text cs c is no_quote h =
     let quote : first_is (λ c. c == 39) text ≡ false = ap (first_is (λ c. c == 39)) is ∙ elim (eqb_tells c 39) [ inl e ↦ absurd (no_quote e.1) | inr e ↦ e.0 ] in
     no_local_without_bang text quote (bang_behind text h)
-
--- where one begins, no head, word or number is longer
-all_words : (name : List ℕ) → list_all is_plain name ≡ true → list_all is_word_character name ≡ true
-all_words [] h = refl
-all_words (c ∷ cs) h = let p = and_parts (is_plain c) (list_all is_plain cs) h in rw (p.0) (all_words cs p.1)
 
 word_behind : (f : Token × List ℕ) (more : List ℕ) (found : Option Token) → length f.1 ≤ length more → longer (Some f) (longer (option_map (λ u. let g : Token × List ℕ = (u, more) in g) found) None) ≡ Some f
 word_behind f more None le = refl

@@ -37,12 +37,9 @@ use Rattle.ic_tree.specs.Stored.{SpeaksWell, stored_meaning}
 use Rattle.ic_tree.specs.laws.LanguageLaws.{found_is_word, some_at}
 use Rattle.ic_tree.specs.laws.ShownLaws.{separators_of, shown_laws, shown_spells, speaks_beside}
 use Rattle.ic_tree.specs.laws.StoredLaws.{speaks_well, stored_laws}
+use Rattle.ic_laws.proofs.General.{some_there as there}
 
 -- ---- what is found
-
-there : {X : Type 0} (o : Option X) → is_some o ≡ true → (x : X) × (o ≡ Some x)
-there None h = absurd (cc)
-there (Some x) h = (x, refl)
 
 -- English, as tables have it
 record HasEnglish (tables : TableSet) (e : Language) : Type 0 where

@@ -19,8 +19,7 @@ use Rattle.ic_laws.proofs.AmountTexts.{unsigned_amount-text}
 use Rattle.ic_laws.proofs.printing.Words.{gives_way}
 use Rattle.ic_laws.proofs.tokens.Characters.{digit_begins_none}
 use Rattle.ic_laws.proofs.tokens.Locals.{no_local_digit}
-use Rattle.ic_laws.proofs.tokens.Numbers.{separator_apart}
-use Rattle.ic_tree.proofs.DigitLemmas.{all_whole}
+use Rattle.ic_laws.proofs.tokens.Numbers.{separator_apart, digits_all as all_whole}
 use Rattle.ic_tree.specs.Lexing.{IsWholeNumber, found, named_at}
 
 -- of a head, a word and a number it is the number, and no reference is as long

@@ -15,6 +15,7 @@ use Rattle.std.proofs.lemmas.Str.{encodes_same}
 use Rattle.ic_laws.specs.Binding.{Binders, is_bound_by}
 use Rattle.ic_laws.specs.Name.{agrees, fold}
 use Rattle.ic_tree.specs.InScope.{AreFound, but_last, key_of, or_last, place_of}
+use Rattle.ic_tables.proofs.WordLemmas.{eqb_itself as same}
 
 -- names agree where their keys are one
 same_key : (variable word : List ℕ) → bytes_eq (key_of variable) (key_of word) ≡ agrees variable word
@@ -60,9 +61,6 @@ later_below false count (Some j) h i e = let z : suc j ≡ i = cc in let lt : j 
 place_of-below : (key : List ℕ) (names : Binders) → IsBelow (length names) (place_of key names)
 place_of-below key [] = λ i e. absurd (cc)
 place_of-below key (x ∷ xs) = later_below (bytes_eq (key_of x) key) (length xs) (place_of key xs) (place_of-below key xs)
-
-same : (n : ℕ) → (n == n) ≡ true
-same n = grind (arith, nat_tests)
 
 differs : (m n : ℕ) → m < n → (m == n) ≡ false
 differs m n lt = grind (arith, nat_tests)

@@ -1,7 +1,6 @@
 -- The shown form in code: errors by local words and then by English ones, its separators, and the text of a reference.
 use Rattle.std.proofs.Common.{◌≡◌, ℕ, ℤ, ◌<◌, ◌≤◌, List, Bool, true, ◌&&◌, bytes_eq, codes, Option, Some, None, option_map, MatchOption, refl, sym, ap, ap₂, ◌∙◌, inl, inr, arith}
 use Rattle.std.proofs.lemmas.Bool.{and_parts, or_cases}
-use Rattle.std.proofs.lemmas.Slice.Eq.{bytes_eq-Decides}
 use Rattle.ic_laws.specs.declared.dialect.WordKind.TheVariants as kinds
 use Rattle.ic_refs.specs.Sheet.{or_else}
 use Rattle.ic_tables.specs.Order.{BeginsWithFound, BeginsWithNone}
@@ -10,6 +9,7 @@ use Rattle.ic_tables.specs.declared.language.Language.{Language}
 use Rattle.ic_tables.specs.Formats.{decimal_separator, has_separators}
 use Rattle.ic_tree.specs.Shown.{SpeaksBeside, decimal_of, found_in, list_of, list_separator, only_character, shown_meaning}
 use Rattle.ic_tree.specs.laws.ShownLaws.{found_below_either}
+use Rattle.ic_tables.proofs.WellFormed.{bytes_same as of_text}
 
 -- ---- two ways to find, one after the other
 
@@ -32,9 +32,6 @@ pub no_number : (l english : Language) (text rest : List ℕ) (n : ℕ) → Spea
 no_number l english text rest n w b h = let below : n < 12 = found_below_either l english w kinds.Error b.front n b.found in omega arith
 
 -- ---- the separators of a locale by whether the decimal one is a comma
-
-of_text : (text other : List ℕ) → bytes_eq text other ≡ true → text ≡ other
-of_text text other h = (bytes_eq-Decides text other).0 h
 
 pub separators_told : (l : Locale) → has_separators l ≡ true → (list_of (bytes_eq l.numbers.symbols.decimal (codes ",")) ≡ list_separator l) × (decimal_of (bytes_eq l.numbers.symbols.decimal (codes ",")) ≡ decimal_separator l)
 unfolding has_separators

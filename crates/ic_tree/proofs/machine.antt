@@ -7,6 +7,6 @@ mod NotationExamples
 mod RawExamples
 mod Readings
 mod RenameExample
-mod Session
+pub mod Session
 mod SheetExamples
 mod Small

@@ -9,7 +9,7 @@ use crate::in_scope::Binders;
 use crate::language_words::function_of;
 use ic_laws::{
     Bound, Boxed, Finder, Items, LetPair, NameMention, OutOfMemory, SheetMention, Spelled, Text,
-    Tree, agree, find_local,
+    Tree, find_local,
 };
 use ic_tables::Language;
 use std::alloc::Global;

@@ -7,8 +7,7 @@ ghost use Rattle.ic_tree.specs.Typed.{as_typed, dangling_sheet, pair_as_typed, p
 use crate::in_scope::Binders;
 use crate::language_words::function_of;
 use ic_laws::{
-    Bound, Boxed, Finder, Items, LetPair, NameMention, OutOfMemory, SheetMention, Text, Tree,
-    find_local,
+    Bound, Boxed, Finder, Items, LetPair, NameMention, OutOfMemory, SheetMention, Tree, find_local,
 };
 use ic_tables::Language;
 use std::alloc::Global;

@@ -3,7 +3,6 @@ ghost use Rattle.std.specs.Option.{option_copied};
 ghost use Rattle.ic_laws.specs.Dialect.{FindsErrorAt, reference_to};
 ghost use Rattle.ic_laws.specs.Position.{is_part_within as part_within, is_place_within as place_within, is_within};
 ghost use Rattle.ic_laws.specs.Scan.{EndsWith};
-ghost use Rattle.ic_laws.specs.declared.dialect.WordKind.TheVariants as kinds;
 ghost use Rattle.ic_refs.specs.Stored.{is_stored_spellable as spellable, stored_text};
 ghost use Rattle.ic_tree.specs.Stored.{SpeaksWell, stored_meaning};
 

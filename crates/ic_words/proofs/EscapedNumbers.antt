@@ -7,7 +7,7 @@ use Rattle.std.proofs.lemmas.Bool.{and_cases, and_parts, cases_Bool}
 use Rattle.std.proofs.lemmas.Bool.Decides.{eqb_tells}
 use Rattle.ic_laws.specs.Command.{at_most, index_said, position_said}
 use Rattle.ic_laws.specs.Lines.{escape_meaning, unescaped}
-use Rattle.ic_words.proofs.NumberLemmas.{without_digits}
+use Rattle.ic_laws.proofs.General.{no_number as without_digits}
 
 -- a digit or a minus
 abbrev pub plain : ℕ → Bool

@@ -1,28 +1,16 @@
 -- Words that are numbers, by their bytes and by their characters.
-use Rattle.std.proofs.Common.{◌≡◌, ◌≢◌, ℕ, ◌<◌, ◌≤◌, ◌^◌, List, [], ◌∷◌, ◌++◌, length, drop, get_or, true, false, Option, Some, None, Result, Ok, Err, OkIff, chars, IsUtf8, IsAscii, encode_utf8, encode_utf8_all, lit<, ℤ, pos, neg_ℤ, option_map, option_and_then, refl, ap, sym, ◌∙◌, arith, inl, inr}
-use Rattle.std.specs.Char.{is_ascii_digit}
+use Rattle.std.proofs.Common.{◌≡◌, ◌≢◌, ℕ, ◌<◌, ◌≤◌, ◌^◌, List, [], ◌∷◌, ◌++◌, length, drop, get_or, true, false, Option, Some, None, Result, Ok, Err, OkIff, chars, IsUtf8, encode_utf8, encode_utf8_all, lit<, ℤ, pos, neg_ℤ, option_map, option_and_then, refl, ap, sym, ◌∙◌, arith, inl, inr}
 use Rattle.std.specs.Int.{w32}
 use Rattle.std.specs.Result.{result_ok}
 use Rattle.std.specs.Str.{all_ascii_digits}
 use Rattle.std.specs.Str.Parse.{ParsesSigned, ParsesUnsigned, digits_value}
-use Rattle.std.proofs.lemmas.Bool.{and_parts, cases_Bool}
-use Rattle.std.proofs.lemmas.Bool.Decides.{eqb_tells, leb_tells, nat_tests}
+use Rattle.std.proofs.lemmas.Bool.{cases_Bool}
+use Rattle.std.proofs.lemmas.Bool.Decides.{eqb_tells, leb_tells}
 use Rattle.std.proofs.lemmas.Str.{chars-IsAscii, IsUtf8-past_char, chars_past_char, encode_ascii, encodes-IsAscii, encodes-chars}
-use Rattle.std.proofs.lemmas.Str.Ascii.{IsAscii-cons, IsAscii-nil}
-use Rattle.std.proofs.lemmas.Str.Parse.{IsNumeralModel, numerals_by_value, parse_plain, parse_signed_minus, parse_signed_plain, tells_all_ascii_digits}
+use Rattle.std.proofs.lemmas.Str.Parse.{parse_plain, parse_signed_minus, parse_signed_plain}
 use Rattle.ic_laws.specs.Command.{at_most, index_said, number_said, position_said}
-
-digit_below : (c : ℕ) → is_ascii_digit c ≡ true → c < 128
-digit_below c h = grind (arith, nat_tests)
-
-pub digits_ascii : (cs : List ℕ) → all_ascii_digits cs ≡ true → IsAscii cs
-digits_ascii [] h = IsAscii-nil
-digits_ascii (c ∷ cs) h =
-    let p = and_parts (is_ascii_digit c) (all_ascii_digits cs) h in IsAscii-cons c cs (digit_below c p.0) (digits_ascii cs p.1)
-
-pub without_digits : (cs : List ℕ) → all_ascii_digits cs ≡ false → number_said cs ≡ None
-without_digits [] h = absurd (cc)
-without_digits (c ∷ cs) h = rw h refl
+use Rattle.ic_laws.proofs.AmountLemmas.{numerals}
+use Rattle.ic_laws.proofs.General.{digits_ascii, no_number as without_digits}
 
 -- a number is the same by its bytes
 same_number : (bytes : List ℕ) → IsUtf8 bytes → number_said (chars bytes) ≡ number_said bytes
@@ -71,9 +59,6 @@ same_position bytes u =
           plain_position (chars bytes) (λ h. p.1 (minus_byte (chars bytes) bytes (encodes-chars bytes u) h))
           ∙ ap from_zero (same_number bytes u) ∙ sym (plain_position bytes p.1)
     ]
-
-numerals : IsNumeralModel (λ ds. all_ascii_digits ds ≡ true) (digits_value 10)
-numerals = numerals_by_value (λ ds. all_ascii_digits ds ≡ true) tells_all_ascii_digits
 
 -- what is read of digits, up to a number
 abbrev IsUpTo : ℕ → List ℕ → Type 0

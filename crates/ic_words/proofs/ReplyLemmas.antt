@@ -17,7 +17,7 @@ use Rattle.ic_lines.specs.Reading.{has_line_feed}
 use Rattle.ic_machine.specs.Refusal.{OfCore, Refusal, refusal_name}
 use Rattle.ic_machine.specs.Reply.{Field, NumberField, PositionField, field_text, field_word, position_text, reply_bytes, reply_text}
 use Rattle.ic_words.specs.Reply.{AreTexts, IsLineText}
-use Rattle.ic_words.proofs.NumberLemmas.{digits_ascii}
+use Rattle.ic_laws.proofs.General.{digits_ascii}
 
 abbrev pub are_ascii : List ℕ → Bool
 are_ascii bytes = list_all (λ b. ltb b 128) bytes

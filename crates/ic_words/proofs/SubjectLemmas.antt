@@ -18,9 +18,13 @@ use Rattle.ic_machine.specs.subjects.Sheets.{sheet_rows}
 use Rattle.ic_machine.specs.subjects.Styles.{style_rows}
 use Rattle.ic_machine.specs.subjects.Tabs.{tab_rows}
 use Rattle.ic_machine.specs.subjects.Writing.{writing_rows}
+use Rattle.ic_words.specs.Subject.{subject_of}
 use Rattle.ic_words.specs.Words.{copies_values}
+use Rattle.ic_words.specs.declared.command.subject.Subject.{Subject}
+use Rattle.ic_words.specs.declared.command.subject.Subject.TheVariants as subjects
 use Rattle.ic_words.specs.subjects.Arrays.{spill_put_said, value_put_said}
 use Rattle.ic_words.proofs.AsciiLemmas.{found_same, has_ascii_names, not_found}
+use Rattle.ic_machine.proofs.as_core.CoreLines.{option_map-both as map_map}
 
 -- Where no word of a command is a value, the English words of the error values don't matter. ----
 
@@ -124,10 +128,6 @@ all_known = refl
 pub known_named : (english : List (List ℕ)) (name : List ℕ) (words : List (List ℕ)) → IsUtf8 name → copies_values name ≡ false → named [] commands name words ≡ named english commands (chars name) words
 known_named english name words u other = named_same english commands name words all_known other ∙ sym (found_same_named english name words u)
 
-map_map : {A B C : Type 0} (f : A → B) (g : B → C) (o : Option A) → option_map (λ x. g (f x)) o ≡ option_map g (option_map f o)
-map_map f g None = refl
-map_map f g (Some x) = refl
-
 -- The two commands whose words are values ----
 
 pub not_values : (name : List ℕ) → name ≢ codes "put_formula_value" → name ≢ codes "put_spill" → copies_values name ≡ false
@@ -157,9 +157,9 @@ module _ (english : List (List ℕ)) (words : List (List ℕ)) where
   pub spill_named : (name : List ℕ) → IsUtf8 name → name ≡ codes "put_spill" → option_map laws.OnArrays (spill_put_said english words) ≡ joined (named english commands (chars name) words)
   spill_named name u is = spill_row ∙ ap (λ n. joined (named english commands n words)) (sym is) ∙ sym (ap joined (found_same_named english name words u))
 
--- The command of the one subject that has the name, in whatever order the subjects are asked ----
+-- The command of the one subject that may have the name ----
 
-pub unnamed : {C : Type 0} (rows : List (Row C)) (name : List ℕ) (words : List (List ℕ)) → AllByRecursion (λ (row : Row C). name ≢ row.name) rows → None ≡ named [] rows name words
+pub unnamed : {C : Type 0} (rows : List (Row C)) (name : List ℕ) (words : List (List ℕ)) → AllByRecursion (λ (row : Row C). name ≢ row.name) rows → None ≡ joined (named [] rows name words)
 unnamed {C} rows name words h = rw (not_found (λ (row : Row C). row.name) rows name h) refl
 
 -- the first row of the whole table that has the name of this row of a subject is this row
@@ -210,14 +210,43 @@ pub arrays_first : AreFirst laws.OnArrays array_rows
 unfolding commands
 arrays_first = record { each = search rules }
 
--- a subject that lacks the name
-pub record Lacks {D : Type 0} (rows : List (Row D)) (name : List ℕ) (words : List (List ℕ)) : Type 0 where
-  pub none : named [] rows name words ≡ None
+-- each row of a subject has a name that tells the subject
+pub record AreTold {D : Type 0} (subject : Subject) (rows : List (Row D)) : Type 0 where
+  pub each : AllByRecursion (λ (row : Row D). subject_of row.name ≡ subject) rows
 
--- so does one of which nothing is made
-pub lacks : {C D : Type 0} {rows : List (Row D)} {name : List ℕ} {words : List (List ℕ)} {made : Option (Option C)}
-    → made ≡ None → IfNone made (named [] rows name words ≡ None) → Lacks rows name words
-lacks {rows = rows} {name} {words} none is = record { none = subst (λ made. IfNone made (named [] rows name words ≡ None)) none is }
+sheets_told : AreTold subjects.Sheets sheet_rows
+sheets_told = record { each = search rules }
+
+definitions_told : AreTold subjects.Definitions definition_rows
+definitions_told = record { each = search rules }
+
+notation_told : AreTold subjects.Notation notation_rows
+notation_told = record { each = search rules }
+
+writing_told : AreTold subjects.Writing writing_rows
+writing_told = record { each = search rules }
+
+reading_told : AreTold subjects.Reading reading_rows
+reading_told = record { each = search rules }
+
+extending_told : AreTold subjects.Extending extending_rows
+extending_told = record { each = search rules }
+
+styles_told : AreTold subjects.Styles style_rows
+styles_told = record { each = search rules }
+
+layout_told : AreTold subjects.Layout layout_rows
+layout_told = record { each = search rules }
+
+tabs_told : AreTold subjects.Tabs tab_rows
+tabs_told = record { each = search rules }
+
+arrays_told : AreTold subjects.Arrays array_rows
+arrays_told = record { each = search rules }
+
+-- a subject that lacks the name
+record Lacks {D : Type 0} (rows : List (Row D)) (name : List ℕ) (words : List (List ℕ)) : Type 0 where
+  none : named [] rows name words ≡ None
 
 module _ (name : List ℕ) (words : List (List ℕ)) where
   by_row : {D : Type 0} (subject : D → laws.Command) (row : Row D) → IsFirst subject row → bytes_eq row.name name ≡ true
@@ -238,13 +267,6 @@ module _ (name : List ℕ) (words : List (List ℕ)) where
         | inr e ↦ rw e (by_rows subject rows first.1 said)
       ]
 
-  -- the command of a subject that has the name
-  pub found : {C D : Type 0} {subject : D → laws.Command} {rows : List (Row D)} → AreFirst subject rows → (meant : C → D)
-      → {made : Option (Option C)} {command : Option C} → made ≡ Some command → option_map (option_map meant) made ≡ named [] rows name words
-      → option_map subject (option_map meant command) ≡ joined (named [] commands name words)
-  found {subject = subject} {rows} first meant {command = command} some is =
-      sym (ap joined (by_rows subject rows first.each (option_map meant command) (sym is ∙ ap (option_map (option_map meant)) some)))
-
   beside : {D : Type 0} (subject : D → laws.Command) (rows : List (Row D)) (later : List (Row laws.Command)) → named [] rows name words ≡ None
       → named [] later name words ≡ None → named [] (map (row_in subject) rows ++ later) name words ≡ None
   beside subject [] later = λ lacking none. none
@@ -252,7 +274,7 @@ module _ (name : List ℕ) (words : List (List ℕ)) where
       elim (cases_Bool (bytes_eq row.name name)) [ inl e ↦ rw e (λ lacking none. cc) | inr e ↦ rw e (beside subject rows later) ]
 
   -- where each subject lacks the name, the whole table does
-  pub none_named : Lacks sheet_rows name words
+  none_named : Lacks sheet_rows name words
       → Lacks definition_rows name words
       → Lacks notation_rows name words
       → Lacks writing_rows name words
@@ -276,3 +298,59 @@ module _ (name : List ℕ) (words : List (List ℕ)) where
       (beside laws.OnLayout layout_rows from_tabs layout.none
       (beside laws.OnTabs tab_rows from_arrays tabs.none
       (beside laws.OnArrays array_rows [] arrays.none refl)))))))))))
+
+  told_of : {D : Type 0} (subject : Subject) (rows : List (Row D)) → AllByRecursion (λ (row : Row D). subject_of row.name ≡ subject) rows → (said : Option D)
+      → named [] rows name words ≡ Some said → subject_of name ≡ subject
+  told_of subject [] all said = λ is. cc
+  told_of subject (row ∷ rows) all said =
+      elim (cases_Bool (bytes_eq row.name name)) [
+        | inl e ↦ λ is. ap subject_of (sym ((bytes_eq-Decides row.name name).0 e)) ∙ all.0
+        | inr e ↦ rw e (told_of subject rows all.1 said)
+      ]
+
+  -- a subject has the name only if the name tells it
+  lacks_unless : {D : Type 0} {subject : Subject} {rows : List (Row D)} → AreTold subject rows → (subject_of name ≡ subject → named [] rows name words ≡ None)
+      → Lacks rows name words
+  lacks_unless {D} {subject} {rows} told lacking = record { none = by_said (named [] rows name words) refl }
+    where
+      by_said : (o : Option (Option D)) → named [] rows name words ≡ o → named [] rows name words ≡ None
+      by_said None is = is
+      by_said (Some said) is = lacking (told_of subject rows told.each said is)
+
+  -- the subject that is told lacks the name
+  abbrev pub LacksIt : Subject → Type 0
+  LacksIt subjects.Sheets = named [] sheet_rows name words ≡ None
+  LacksIt subjects.Definitions = named [] definition_rows name words ≡ None
+  LacksIt subjects.Notation = named [] notation_rows name words ≡ None
+  LacksIt subjects.Writing = named [] writing_rows name words ≡ None
+  LacksIt subjects.Reading = named [] reading_rows name words ≡ None
+  LacksIt subjects.Extending = named [] extending_rows name words ≡ None
+  LacksIt subjects.Styles = named [] style_rows name words ≡ None
+  LacksIt subjects.Layout = named [] layout_rows name words ≡ None
+  LacksIt subjects.Tabs = named [] tab_rows name words ≡ None
+  LacksIt subjects.Arrays = named [] array_rows name words ≡ None
+
+  -- then no subject has it
+  none_has : (subject : Subject) → subject_of name ≡ subject → LacksIt subject → None ≡ joined (named [] commands name words)
+  none_has subject told lacking =
+      none_named
+      (lacks_unless sheets_told (λ is. subst LacksIt (sym told ∙ is) lacking))
+      (lacks_unless definitions_told (λ is. subst LacksIt (sym told ∙ is) lacking))
+      (lacks_unless notation_told (λ is. subst LacksIt (sym told ∙ is) lacking))
+      (lacks_unless writing_told (λ is. subst LacksIt (sym told ∙ is) lacking))
+      (lacks_unless reading_told (λ is. subst LacksIt (sym told ∙ is) lacking))
+      (lacks_unless extending_told (λ is. subst LacksIt (sym told ∙ is) lacking))
+      (lacks_unless styles_told (λ is. subst LacksIt (sym told ∙ is) lacking))
+      (lacks_unless layout_told (λ is. subst LacksIt (sym told ∙ is) lacking))
+      (lacks_unless tabs_told (λ is. subst LacksIt (sym told ∙ is) lacking))
+      (lacks_unless arrays_told (λ is. subst LacksIt (sym told ∙ is) lacking))
+
+  -- the command of the subject that is told is that of the whole table
+  pub of_told : (told : Subject) {D : Type 0} {subject : D → laws.Command} {rows : List (Row D)} → AreFirst subject rows → subject_of name ≡ told
+      → (named [] rows name words ≡ None → LacksIt told) → {made : Option D} → made ≡ joined (named [] rows name words)
+      → option_map subject made ≡ joined (named [] commands name words)
+  of_told told {D} {subject} {rows} first is lacks made_is = ap (option_map subject) made_is ∙ by_said (named [] rows name words) refl
+    where
+      by_said : (o : Option (Option D)) → named [] rows name words ≡ o → option_map subject (joined o) ≡ joined (named [] commands name words)
+      by_said None e = none_has told is (lacks e)
+      by_said (Some said) e = sym (ap joined (by_rows subject rows first.each said e))

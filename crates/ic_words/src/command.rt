@@ -31,8 +31,8 @@ use sheets::Sheets;
 use std::alloc::Global;
 use styles::Styles;
 use subject::{
-    in_arrays, in_definitions, in_extending, in_layout, in_notation, in_reading, in_sheets,
-    in_styles, in_tabs, in_writing, likely,
+    Subject, in_arrays, in_definitions, in_extending, in_layout, in_notation, in_reading,
+    in_sheets, in_styles, in_tabs, in_writing, subject_of,
 };
 use tabs::Tabs;
 use writing::Writing;
@@ -53,9 +53,8 @@ pub enum Command<'l> {
     Arrays(Arrays<'l>),
 }
 
-/// A command of one subject, by a name and the words after it: None where the subject lacks the name, and None inside
-/// where the words don't fit the command.
-type Made<C> = Result<Option<Option<C>>, OutOfMemory>;
+/// The command of a name and the words after it. None where there is none of the name, or the words don't fit it.
+type Made<C> = Result<Option<C>, OutOfMemory>;
 
 /// The command that a line is, where this is the language `en`; None where it is none: another name, fewer or
 /// more words, a number that isn't one of its type, a value that is none, or a wrong escape. Memory is asked for only for a
@@ -94,63 +93,23 @@ fn command_named<'l>(
     }
 }
 
-/// The command of this name, where its words aren't values: that of the one subject that has the name.
-fn plain_command<'l>(
-    alloc: Global,
-    name: &str,
-    rest: Option<&'l str>,
-) -> Result<Option<Command<'l>>, OutOfMemory>
+/// The command of this name, where its words aren't values: that of the one subject that may have the name.
+fn plain_command<'l>(alloc: Global, name: &str, rest: Option<&'l str>) -> Made<Command<'l>>
     ensures exact { copies_values name.now ≡ false → IfOk result
         (λ command. option_map command_meant command
         ≡ joined (named [] commands name.now (words_left rest.entry))) }
     ensures memory { OnErr result (HaveEscape (words_left rest.entry)) }
 {
-    if let Some(command) = likely(alloc, name, rest)? {
-        return Ok(command);
+    match subject_of(name) {
+        Subject::Sheets => in_sheets(alloc, name, rest),
+        Subject::Definitions => in_definitions(alloc, name, rest),
+        Subject::Notation => in_notation(alloc, name, rest),
+        Subject::Writing => in_writing(alloc, name, rest),
+        Subject::Reading => in_reading(alloc, name, rest),
+        Subject::Extending => in_extending(alloc, name, rest),
+        Subject::Styles => in_styles(alloc, name, rest),
+        Subject::Layout => in_layout(alloc, name, rest),
+        Subject::Tabs => in_tabs(alloc, name, rest),
+        Subject::Arrays => in_arrays(alloc, name, rest),
     }
-    searched(alloc, name, rest)
-}
-
-/// The same, where each subject is asked, one after another.
-fn searched<'l>(
-    alloc: Global,
-    name: &str,
-    rest: Option<&'l str>,
-) -> Result<Option<Command<'l>>, OutOfMemory>
-    ensures exact { copies_values name.now ≡ false → IfOk result
-        (λ command. option_map command_meant command
-        ≡ joined (named [] commands name.now (words_left rest.entry))) }
-    ensures memory { OnErr result (HaveEscape (words_left rest.entry)) }
-{
-    if let Some(command) = in_writing(alloc, name, rest)? {
-        return Ok(command);
-    }
-    if let Some(command) = in_reading(alloc, name, rest)? {
-        return Ok(command);
-    }
-    if let Some(command) = in_arrays(alloc, name, rest)? {
-        return Ok(command);
-    }
-    if let Some(command) = in_definitions(alloc, name, rest)? {
-        return Ok(command);
-    }
-    if let Some(command) = in_extending(alloc, name, rest)? {
-        return Ok(command);
-    }
-    if let Some(command) = in_styles(alloc, name, rest)? {
-        return Ok(command);
-    }
-    if let Some(command) = in_layout(alloc, name, rest)? {
-        return Ok(command);
-    }
-    if let Some(command) = in_sheets(alloc, name, rest)? {
-        return Ok(command);
-    }
-    if let Some(command) = in_tabs(alloc, name, rest)? {
-        return Ok(command);
-    }
-    if let Some(command) = in_notation(alloc, name, rest)? {
-        return Ok(command);
-    }
-    Ok(None)
 }

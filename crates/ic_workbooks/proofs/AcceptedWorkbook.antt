@@ -38,8 +38,8 @@ use Rattle.ic_cells.specs.declared.workbook.DefinedName.{DefinedName}
 use Rattle.ic_cells.specs.declared.workbook.Workbook.{Workbook}
 use Rattle.ic_tree.proofs.NotationLaws.{knows_language_is, knows_locale_is, notations_are}
 use Rattle.ic_tree.specs.Notations.{in_english, notations_of}
-use Rattle.ic_machine.proofs.AlikeGrid.{get-seen}
-use Rattle.ic_machine.proofs.ValidLemmas.{all_of}
+use Rattle.ic_machine.proofs.contents.AlikeGrid.{get-seen}
+use Rattle.ic_machine.proofs.valid.ValidLemmas.{all_of}
 use Rattle.ic_machine.specs.Book as machine
 use Rattle.ic_machine.specs.Book.{core_sheet}
 use Rattle.ic_machine.specs.Content.{content_of, formula_in, formula_index}

@@ -1,6 +1,6 @@
 -- What is asked of the records of a workbook that is handed in, one after another.
 use Rattle.std.proofs.Common.{Bool, List, None, Option, Some, [], ap, ap₂, cond, false, get_or, is_some, length, map, option_map, refl, subst, suc, sym, take, true, ℕ, ◌++◌, ◌+◌, ◌<◌, ◌==◌, ◌||◌, ◌∙◌, ◌∷◌, ◌≡◌, ◌≤◌}
-use Rattle.std.proofs.lemmas.Bool.{and_from, and_parts}
+use Rattle.std.proofs.lemmas.Bool.{and_parts}
 use Rattle.std.proofs.lemmas.List.{map_more, take_all, take_more}
 use Rattle.std.specs.List.{AllByRecursion, list_all, list_any, position}
 use Rattle.ic_laws.proofs.core.Defined.{same_key_equiv}
@@ -24,10 +24,6 @@ use Rattle.ic_workbooks.specs.Asked.{AreDefined, IsDefined, key_in, unread}
 pub all_pass : {W : Type 0} (test : W → Bool) (ws : List W) → list_all test ws ≡ true → AllByRecursion (λ w. test w ≡ true) ws
 all_pass test [] e = tt
 all_pass test (w ∷ ws) e = let parts = and_parts (test w) (list_all test ws) e in (parts.0, all_pass test ws parts.1)
-
-pub passes_all : {W : Type 0} (test : W → Bool) (ws : List W) → AllByRecursion (λ w. test w ≡ true) ws → list_all test ws ≡ true
-passes_all test [] h = refl
-passes_all test (w ∷ ws) h = and_from (test w) (list_all test ws) h.0 (passes_all test ws h.1)
 
 -- ---- what is asked of each, one after another
 

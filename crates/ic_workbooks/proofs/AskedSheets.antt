@@ -9,8 +9,8 @@ use Rattle.ic_cells.specs.declared.workbook.Workbook.{Workbook}
 use Rattle.ic_grid.specs.Conditions.{AreArrays, AreInSheet, AreMerges}
 use Rattle.ic_grid.specs.Conditions as grid
 use Rattle.ic_grid.specs.Shape.{celled}
-use Rattle.ic_machine.proofs.AlikeGrid.{arrays_held, inside_held, merges_held}
-use Rattle.ic_machine.proofs.AlikeLemmas.{cells_are_contents}
+use Rattle.ic_machine.proofs.contents.AlikeGrid.{arrays_held, inside_held, merges_held}
+use Rattle.ic_machine.proofs.contents.AlikeLemmas.{cells_are_contents}
 use Rattle.ic_machine.specs.Book as machine
 use Rattle.ic_machine.specs.Content.{content_of, held}
 use Rattle.ic_machine.specs.Valid as valid

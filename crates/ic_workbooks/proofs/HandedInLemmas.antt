@@ -31,7 +31,7 @@ use Rattle.ic_cells.specs.declared.workbook.DefinedName.{DefinedName}
 use Rattle.ic_cells.specs.declared.workbook.Workbook.{Workbook}
 use Rattle.ic_tree.proofs.ClashLemmas.{english_binds}
 use Rattle.ic_tree.specs.Notations.{in_english}
-use Rattle.ic_machine.proofs.ValidLemmas.{all_of}
+use Rattle.ic_machine.proofs.valid.ValidLemmas.{all_of}
 use Rattle.ic_machine.specs.Book as machine
 use Rattle.ic_machine.specs.Content.{formula_in, formula_index}
 use Rattle.ic_machine.specs.Valid as valid_machine

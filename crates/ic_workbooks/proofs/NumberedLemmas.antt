@@ -13,7 +13,7 @@ use Rattle.ic_cells.specs.declared.cell.Cell.{Cell}
 use Rattle.ic_cells.specs.declared.cell.Cell.TheVariants as cells
 use Rattle.ic_grid.proofs.ContentsLemmas.{same_contents}
 use Rattle.ic_grid.specs.Contents.{Contents}
-use Rattle.ic_machine.proofs.AlikeGrid.{empty-seen, get-seen, insert-seen}
+use Rattle.ic_machine.proofs.contents.AlikeGrid.{empty-seen, get-seen, insert-seen}
 use Rattle.ic_machine.specs.Alike.{seen_by}
 use Rattle.ic_machine.specs.Content.{Content, TextContent, content_of}
 use Rattle.ic_parts.specs.Book.{HasString}

@@ -1,6 +1,6 @@
 -- That no reference lies outside is that each lies inside; and the formulas of cells are those of what the cells are.
 use mathlib.Core.Path.{fun_ext}
-use Rattle.std.proofs.Common.{◌≡◌, ◌↔◌, ◌||◌, ◌<◌, ◌∙◌, ℕ, zero, suc, ℤ, List, [], ◌∷◌, Bool, false, not, map, length, get_or, Some, None, refl, sym, ap, ap₂, arith, subst, option_map}
+use Rattle.std.proofs.Common.{◌≡◌, ◌↔◌, ◌<◌, ◌∙◌, ℕ, zero, suc, ℤ, List, [], ◌∷◌, Bool, false, not, map, length, get_or, Some, None, refl, sym, ap, arith, subst, option_map}
 use Rattle.std.proofs.lemmas.Bool.{or_parts, not-false as negated}
 use Rattle.std.proofs.lemmas.List.Elements.{All-contains, All-from_recursion, Contains-get_or, recursion_from_All}
 use Rattle.std.proofs.lemmas.Map.Views.{btree_map_get_iff}
@@ -32,7 +32,7 @@ use Rattle.ic_cells.specs.declared.cell.Cell.{Cell}
 use Rattle.ic_cells.specs.declared.cell.Cell.TheVariants as cells
 use Rattle.ic_grid.proofs.WalkLemmas.{map_get}
 use Rattle.ic_grid.specs.Contents.{Contents}
-use Rattle.ic_machine.proofs.AlikeGrid.{get-seen, stands_seen}
+use Rattle.ic_machine.proofs.contents.AlikeGrid.{get-seen, stands_seen}
 use Rattle.ic_machine.specs.Alike.{seen_by}
 use Rattle.ic_machine.specs.Book as machine
 use Rattle.ic_machine.specs.Content.{Content, content_of, formula_in, formula_index}
@@ -40,9 +40,7 @@ use Rattle.ic_workbooks.specs.HandedIn.{HasFormulaAt, HasFormulas, IsReferenceIn
 use Rattle.ic_workbooks.specs.Numbered.{renumbered}
 use Rattle.ic_workbooks.specs.Referring.{HasCellFormulas, outside_step, some_outside}
 use Rattle.ic_parts.proofs.WholeLemmas.{index_seen}
-
-neither : {a b : Bool} → a ≡ false → b ≡ false → (a || b) ≡ false
-neither e f = ap₂ (λ x y. x || y) e f
+use Rattle.ic_pool.proofs.MentionLemmas.{neither}
 
 module _ {X : Type 0} (test : X → Bool) (P : X → Type 0) where
   none_told : (xs : List X) → AllByRecursion (λ x. (test x ≡ false → P x) × (P x → test x ≡ false)) xs → list_any (λ b. b) (map test xs) ≡ false → AllByRecursion P xs

@@ -11,7 +11,7 @@ use Rattle.ic_grid.specs.Block.{Place}
 use Rattle.ic_grid.specs.Conditions.{AreArrays, AreInSheet, AreMerges, Has}
 use Rattle.ic_grid.specs.Contents.{Contents}
 use Rattle.ic_grid.specs.Shape.{Holding, Shape, celled, shape_of, with_cell_area, with_cell_value}
-use Rattle.ic_machine.proofs.AlikeGrid.{array_of-seen, get-seen, stands_seen}
+use Rattle.ic_machine.proofs.contents.AlikeGrid.{array_of-seen, get-seen, stands_seen}
 use Rattle.ic_machine.specs.Alike.{HoldsAlike, seen_by}
 use Rattle.ic_workbooks.specs.Numbered.{renumbered}
 

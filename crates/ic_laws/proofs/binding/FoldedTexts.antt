@@ -13,21 +13,21 @@ use Rattle.ic_laws.specs.Name.{fold}
 use Rattle.ic_laws.specs.Scene.{past_front}
 
 -- each character of the table of foldings is a Unicode scalar value
-table_scalars : (c : ℕ) → scalars (full_folding c) ≡ true
+pub table_scalars : (c : ℕ) → scalars (full_folding c) ≡ true
 unfolding tables values_ok full_folding_stepped
 table_scalars c = Stepped-at_values full_folding full_folding_stepped scalars refl c
 
-either_scalars : (c : ℕ) (table : List ℕ) → scalar c ≡ true → scalars table ≡ true → scalars (or_itself c table) ≡ true
+pub either_scalars : (c : ℕ) (table : List ℕ) → scalar c ≡ true → scalars table ≡ true → scalars (or_itself c table) ≡ true
 either_scalars c [] h t = rw h refl
 either_scalars c (d ∷ ds) h t = t
 
-scalars-append : (xs ys : List ℕ) → scalars xs ≡ true → scalars ys ≡ true → scalars (xs ++ ys) ≡ true
+pub scalars-append : (xs ys : List ℕ) → scalars xs ≡ true → scalars ys ≡ true → scalars (xs ++ ys) ≡ true
 scalars-append [] ys h k = k
 scalars-append (x ∷ xs) ys h k =
     let parts = and_parts (scalar x) (scalars xs) h in
     and_from (scalar x) (scalars (xs ++ ys)) parts.0 (scalars-append xs ys parts.1 k)
 
-fold_scalars : (cs : List ℕ) → scalars cs ≡ true → scalars (default_case_fold cs) ≡ true
+pub fold_scalars : (cs : List ℕ) → scalars cs ≡ true → scalars (default_case_fold cs) ≡ true
 unfolding default_case_fold
 fold_scalars [] h = refl
 fold_scalars (c ∷ cs) h =

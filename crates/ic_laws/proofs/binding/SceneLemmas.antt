@@ -13,7 +13,7 @@ use Rattle.ic_laws.specs.declared.tree.SheetMention.TheVariants as sheets
 use Rattle.std.specs.Fmt.{decimal}
 use Rattle.std.specs.Prelude.{if◌then◌else◌}
 use Rattle.ic_laws.specs.Binding.{Binders, bound_local, bound_sheet, bound_word, is_bound_by, name_or_dangling, sheet_or_dangling, spelled_sheet, spelled_word}
-use Rattle.ic_laws.specs.Scene.{IdsDiffer, SheetsDiffer, definition_at, found_local, found_name, found_sheet, key_found, key_of, local_key, name_of_key, name_of_sheet, definition_spelling, same_scope, sheet_spelling}
+use Rattle.ic_laws.specs.Scene.{SheetsDiffer, definition_at, found_local, found_name, found_sheet, key_found, key_of, local_key, name_of_key, name_of_sheet, definition_spelling, same_scope, sheet_spelling}
 use Rattle.ic_laws.specs.declared.scene.NameSpelling.{NameSpelling}
 use Rattle.ic_laws.specs.declared.scene.Scene.{Scene}
 use Rattle.ic_laws.specs.declared.scene.SheetName.{SheetName}
@@ -59,10 +59,6 @@ agree_from a b t = (bytes_eq-Decides (fold a) (fold b)).0 t
 
 pub agree_to : (a b : List ℕ) → fold a ≡ fold b → agrees a b ≡ true
 agree_to a b e = (bytes_eq-Decides (fold a) (fold b)).1 e
-
--- names find by their foldings alone
-pub found_sheet_by_fold : (scene : Scene) (a b : List ℕ) → fold a ≡ fold b → found_sheet scene a ≡ found_sheet scene b
-found_sheet_by_fold scene a b e = ap (λ f. option_map (λ (sheet : SheetName). sheet.id) (find (λ (sheet : SheetName). bytes_eq (fold sheet.name) f) scene.sheets)) e
 
 pub found_name_by_fold : (scene : Scene) (scope : Option ℕ) (a b : List ℕ) → fold a ≡ fold b → found_name scene scope a ≡ found_name scene scope b
 found_name_by_fold scene scope a b e = ap (λ f. option_map key_of (option_or (definition_at scene f scope) (definition_at scene f None))) e
@@ -123,28 +119,6 @@ sheet_settles scene differ (Some name) = go (found_sheet scene name) refl
     go : (found : Option ℕ) → found_sheet scene name ≡ found → bound_sheet scene (spelled_sheet (sheet_spelling scene) (sheet_or_dangling name found)) ≡ sheet_or_dangling name found
     go None e = ap (sheet_or_dangling name) e
     go (Some id) e = ap (sheet_or_dangling (sheet_spelling scene id)) (sheet_found_again scene differ name id e)
-
--- the same where sheets' ids differ, and their names may agree
-sheet_found_again_by_ids : (scene : Scene) → IdsDiffer scene → (name : List ℕ) (id : ℕ) → found_sheet scene name ≡ Some id → found_sheet scene (sheet_spelling scene id) ≡ Some id
-sheet_found_again_by_ids scene differ name id e = go (find (λ (s : SheetName). agrees s.name name) scene.sheets) refl e
-  where
-    go : (o : Option SheetName) → find (λ (s : SheetName). agrees s.name name) scene.sheets ≡ o → option_map (λ (s : SheetName). s.id) o ≡ Some id → found_sheet scene (sheet_spelling scene id) ≡ Some id
-    go None f e = absurd (let no : None ≡ Some id = e in cc)
-    go (Some s) f e =
-        let same : s.id ≡ id = some_same s.id id e in
-        let there : find (λ (x : SheetName). nat_eq x.id id) scene.sheets ≡ Some s =
-        subst (λ n. find (λ (x : SheetName). nat_eq x.id n) scene.sheets ≡ Some s) same (first_by_key (λ (x : SheetName). x.id) nat_eq (λ n. eq-eqb n n refl) (λ x. agrees x.name name) scene.sheets s differ f) in
-        ap (λ o. found_sheet scene (unwrap_or (option_map (λ (x : SheetName). x.name) o) (decimal id))) there
-        ∙ (found_sheet_by_fold scene s.name name (agree_from s.name name (found_passes (λ x. agrees x.name name) scene.sheets s f))
-        ∙ (ap (option_map (λ (x : SheetName). x.id)) f ∙ ap (λ n. Some n) same))
-
-pub sheet_settles_by_ids : (scene : Scene) → IdsDiffer scene → (sheet : Option (List ℕ)) → bound_sheet scene (spelled_sheet (sheet_spelling scene) (bound_sheet scene sheet)) ≡ bound_sheet scene sheet
-sheet_settles_by_ids scene differ None = refl
-sheet_settles_by_ids scene differ (Some name) = go (found_sheet scene name) refl
-  where
-    go : (found : Option ℕ) → found_sheet scene name ≡ found → bound_sheet scene (spelled_sheet (sheet_spelling scene) (sheet_or_dangling name found)) ≡ sheet_or_dangling name found
-    go None e = ap (sheet_or_dangling name) e
-    go (Some id) e = ap (sheet_or_dangling (sheet_spelling scene id)) (sheet_found_again_by_ids scene differ name id e)
 
 -- the definition that a word finds has a spelling with the word's folding
 pub same_scope_self : (scope : Option ℕ) → same_scope scope scope ≡ true

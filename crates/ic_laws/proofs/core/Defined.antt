@@ -20,6 +20,7 @@ use Rattle.ic_laws.specs.declared.scene.NameSpelling.{NameSpelling}
 use Rattle.ic_laws.specs.declared.scene.Scene.{Scene}
 use Rattle.ic_laws.specs.declared.scene.SheetName.{SheetName}
 use Rattle.ic_laws.specs.declared.tree.NameKey.{NameKey}
+use Rattle.ic_laws.proofs.binding.SceneLemmas.{same_scope_self as scope_refl}
 
 no_scope : (a : Option ℕ) → same_scope None a ≡ same_scope a None
 no_scope None = refl
@@ -29,13 +30,9 @@ one_scope : (a : ℕ) (b : Option ℕ) → same_scope (Some a) b ≡ same_scope 
 one_scope a None = refl
 one_scope a (Some b) = nat_eq_equiv.symm a b
 
-scope_symm : (a b : Option ℕ) → same_scope a b ≡ same_scope b a
+pub scope_symm : (a b : Option ℕ) → same_scope a b ≡ same_scope b a
 scope_symm None b = no_scope b
 scope_symm (Some a) b = one_scope a b
-
-scope_refl : (a : Option ℕ) → same_scope a a ≡ true
-scope_refl None = refl
-scope_refl (Some a) = nat_eq_equiv.refl a
 
 scope_congr : (a b c : Option ℕ) → same_scope a b ≡ true → same_scope a c ≡ same_scope b c
 scope_congr None None c e = refl

@@ -51,11 +51,11 @@ not_false false e = cc
 sheet_there : (book : CoreBook) (index : ℕ) → lacks_sheet book index ≡ false → index < length book.sheets
 sheet_there book index e = ltb-true index (length book.sheets) (not_false (nat_lt index (length book.sheets)) e)
 
-is_there : {A : Type 0} (o : Option A) → is_none o ≡ false → (x : A) × (o ≡ Some x)
+pub is_there : {A : Type 0} (o : Option A) → is_none o ≡ false → (x : A) × (o ≡ Some x)
 is_there None e = cc
 is_there (Some x) e = (x, refl)
 
-and_true : (a b : Bool) → a ≡ true → b ≡ true → (a && b) ≡ true
+pub and_true : (a b : Bool) → a ≡ true → b ≡ true → (a && b) ≡ true
 and_true a b p q = rw (p, q) refl
 
 more_than_one : (count : ℕ) → 0 < count → nat_eq count 1 ≡ false → 1 < count

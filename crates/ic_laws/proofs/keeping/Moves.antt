@@ -43,7 +43,7 @@ find_among {X} p x front back none =
     fronts (Some y) b e = absurd (let no : Some y ≡ None = e in cc)
 
 -- an item that was put at a place stands there, before and after the others
-insert_place : {X : Type 0} (xs : List X) (i : ℕ) (x : X) → i ≤ length xs → slice_get (insert xs i x) i ≡ Some x
+pub insert_place : {X : Type 0} (xs : List X) (i : ℕ) (x : X) → i ≤ length xs → slice_get (insert xs i x) i ≡ Some x
 insert_place xs zero x h = refl
 insert_place [] (suc i) x h = absurd (omega (arith, h))
 insert_place (y ∷ xs) (suc i) x h = insert_place xs i x (omega (arith, h))

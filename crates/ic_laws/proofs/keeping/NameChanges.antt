@@ -1,7 +1,6 @@
 -- What mentions become where a definition comes, and where one goes.
 use Rattle.std.proofs.Common.{◌≡◌, ℕ, List, [], ◌∷◌, ◌++◌, Bool, true, false, cond, ◌&&◌, ◌||◌, Option, None, Some, refl, sym, ap, ap₂, subst, ◌∙◌, nat_eq, inl, inr, if◌then◌else◌}
 use Rattle.std.specs.Prelude.{bytes_eq, option_map, remove, slice_get, unwrap_or}
-use Rattle.std.specs.Cmp.{nat_eq_equiv}
 use Rattle.std.specs.Cmp.Lexicographic.{nat_list_eq_equiv}
 use Rattle.std.specs.Option.{option_or}
 use Rattle.std.specs.List.{find, list_any}
@@ -24,6 +23,7 @@ use Rattle.ic_laws.specs.declared.tree.NameMention.{NameMention}
 use Rattle.ic_laws.specs.declared.tree.NameMention.TheVariants as names
 use Rattle.ic_laws.specs.declared.tree.SheetMention.{SheetMention}
 use Rattle.ic_laws.specs.declared.tree.SheetMention.TheVariants as sheets
+use Rattle.ic_laws.proofs.core.Defined.{scope_symm as same_scope_flip}
 
 -- keys ----
 
@@ -32,12 +32,6 @@ same_scope_from None None e = refl
 same_scope_from None (Some b) e = absurd (let no : false ≡ true = e in cc)
 same_scope_from (Some a) None e = absurd (let no : false ≡ true = e in cc)
 same_scope_from (Some a) (Some b) e = ap (λ n. Some n) (eqb-true a b e)
-
-same_scope_flip : (a b : Option ℕ) → same_scope a b ≡ same_scope b a
-same_scope_flip None None = refl
-same_scope_flip None (Some b) = refl
-same_scope_flip (Some a) None = refl
-same_scope_flip (Some a) (Some b) = nat_eq_equiv.symm a b
 
 pub same_key_flip : (a b : NameKey) → same_key a b ≡ same_key b a
 same_key_flip a b = ap₂ ◌&&◌ (nat_list_eq_equiv.symm a.name b.name) (same_scope_flip a.scope b.scope)

@@ -38,10 +38,7 @@ use Rattle.ic_laws.proofs.kept.Kept.{english_by_fold}
 use Rattle.ic_laws.proofs.kept.Lifting.{BoundParts, SpelledParts, every_spelled}
 use Rattle.ic_laws.proofs.kept.Stays.{NameStays, Stays, settled_stays}
 use Rattle.ic_laws.proofs.kept.Written.{CallsNoFunction, HasNoFormWord, HasNoFormWords, calls_no_function, shown_reads, spelling_can_be_kept}
-
-neither : (a b : Bool) → (a || b) ≡ false → (a ≡ false) × (b ≡ false)
-neither true b e = cc
-neither false b e = (refl, e)
+use Rattle.ic_laws.proofs.printing.Signs.{or_neither as neither}
 
 module _ (is_boolean is_function : List ℕ → Bool) where
   -- the mention of a node, or a variable that it binds, is no such word

@@ -119,7 +119,7 @@ bound_is_kept n notations scene differ d row column form text t read scope = bou
 -- a kept tree that is written by names can be kept ----
 
 -- an identifier is a word that can be called
-identifier_word : (name : List ℕ) → is_identifier name ≡ true → is_variable name ≡ true
+pub identifier_word : (name : List ℕ) → is_identifier name ≡ true → is_variable name ≡ true
 identifier_word name h =
     let first = and_parts (is_variable name && not (is_lone name) && not (agrees name (codes "LET"))) (not (agrees name (codes "LAMBDA"))) h in
     let second = and_parts (is_variable name && not (is_lone name)) (not (agrees name (codes "LET"))) first.0 in

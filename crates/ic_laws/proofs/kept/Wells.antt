@@ -18,15 +18,12 @@ use Rattle.ic_laws.specs.declared.tree.Tree.TheOpen as one
 use Rattle.ic_laws.proofs.binding.Again.{BoundKind, children_spelled, once, pair_spelled, under}
 use Rattle.ic_laws.proofs.kept.Lifting.{every_bound, every_spelled}
 use Rattle.ic_laws.proofs.kept.Shapes.{bound_arguments, bound_size, bound_top, spelled_arguments, spelled_size, spelled_top}
+use Rattle.ic_laws.proofs.FoldLaws.{clash as not_both}
 
 -- the words of LET and LAMBDA are these
 pub record SpecialWords (english : List ℕ → Option ℕ) (let_fn lambda_fn : ℕ) : Type 0 where
   pub of_let : (word : List ℕ) → english word ≡ Some let_fn → agrees word (codes "LET") ≡ true
   pub of_lambda : (word : List ℕ) → english word ≡ Some lambda_fn → agrees word (codes "LAMBDA") ≡ true
-
-not_both : (b : Bool) → b ≡ true → not b ≡ true → ⊥
-not_both true t f = cc
-not_both false t f = cc
 
 module _ (english : List ℕ → Option ℕ) (scene : Scene) (scope : Option ℕ) (let_fn lambda_fn : ℕ) where
   abbrev kind_of : SpelledKind → Binders → BoundKind

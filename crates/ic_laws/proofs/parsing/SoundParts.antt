@@ -1,5 +1,5 @@
 -- What is read is a well-formed tree with those tokens: arguments, the parts of LET and LAMBDA, the rows of an array.
-use Rattle.std.proofs.Common.{◌≡◌, inl, inr, ℕ, zero, suc, ◌≤◌, max, List, [], ◌∷◌, ◌++◌, length, append_assoc, Option, Some, None, option_map, option_and_then, Bool, true, false, ◌&&◌, refl, sym, ap, subst, ◌∙◌, map, arith, if◌then◌else◌}
+use Rattle.std.proofs.Common.{◌≡◌, inl, inr, ℕ, zero, suc, ◌≤◌, max, List, [], ◌∷◌, ◌++◌, length, append_assoc, Option, Some, None, option_map, option_and_then, Bool, true, false, refl, sym, ap, subst, ◌∙◌, map, arith, if◌then◌else◌}
 use Rattle.std.proofs.lemmas.Bool.{cases_Bool}
 use Rattle.std.proofs.lemmas.Option.{same_Some, cond_some, option_and_then_some}
 use Rattle.std.specs.List.{AllByRecursion, list_all}
@@ -14,6 +14,7 @@ use Rattle.ic_laws.specs.declared.tree.Tree.TheOpen as one
 use Rattle.ic_laws.proofs.parsing.Nodes.{AllWell, PairAllWell, well_made, pair_made, yield-node, brackets-node, empty_yields}
 use Rattle.ic_laws.proofs.parsing.CompleteParts.{let_tokens, lambda_tokens, let_tokens-cons, lambda_tokens-cons}
 use Rattle.ic_laws.proofs.parsing.Soundness.{Good, Sound, option_map_some, followed_some, past_separator_some, past_close_some, ItemSound, ListSound, listed_sound}
+use Rattle.ic_laws.proofs.core.Steps.{and_true as both_hold}
 
 -- an argument that is read is well-formed, with few enough brackets
 abbrev pub ArgumentGood : DialectMeaning → ℕ → Spelled → Type 0
@@ -157,9 +158,6 @@ pub record LambdaGood (d : DialectMeaning) (b : ℕ) (ts : List Token) (read : (
   pub well : AllWell d read.0.1
   pub there : is_empty read.0.1 ≡ false
   pub few : open_brackets read.0.1 ≤ b
-
-pub both_hold : (a c : Bool) → a ≡ true → c ≡ true → (a && c) ≡ true
-both_hold a c p q = rw (p, q) refl
 
 lambda_more : (d : DialectMeaning) (b : ℕ) (ts : List Token) (begun : List ℕ × List Token) (parts : (List (List ℕ) × Spelled) × List Token) → binder ts ≡ Some begun → LambdaGood d b begun.1 parts → LambdaGood d b ts ((begun.0 ∷ parts.0.0, parts.0.1), parts.1)
 lambda_more d b ts begun parts begins more =

@@ -13,7 +13,7 @@ use Rattle.ic_laws.specs.declared.tree.BinarySign.TheVariants as signs
 use Rattle.ic_laws.specs.declared.tree.Constant.{Constant}
 use Rattle.ic_laws.specs.declared.tree.Constant.TheVariants as constants
 use Rattle.ic_laws.proofs.parsing.Soundness.{followed_some, past_separator_some, past_brace_some, ItemSound, ListSound, listed_sound}
-use Rattle.ic_laws.proofs.parsing.SoundParts.{both_hold}
+use Rattle.ic_laws.proofs.core.Steps.{and_true as both_hold}
 
 abbrev pub ConstantGood : Constant → Type 0
 ConstantGood c = is_unsigned_constant c ≡ true
@@ -50,7 +50,7 @@ constants_item = record {
   sign = past_separator_some;
 }
 
-all_hold : {A : Type 0} (test : A → Bool) (xs : List A) → AllByRecursion (λ x. test x ≡ true) xs → list_all test xs ≡ true
+pub all_hold : {A : Type 0} (test : A → Bool) (xs : List A) → AllByRecursion (λ x. test x ≡ true) xs → list_all test xs ≡ true
 all_hold test [] all = refl
 all_hold test (x ∷ xs) all = both_hold (test x) (list_all test xs) all.0 (all_hold test xs all.1)
 

@@ -16,9 +16,9 @@ use Rattle.ic_laws.specs.declared.reference.RefToken.{RefToken}
 use Rattle.ic_laws.specs.declared.tree.BinarySign.TheVariants as signs
 use Rattle.ic_laws.specs.declared.tree.Error.{Error}
 use Rattle.ic_laws.specs.Following.{CanSpell, IsNotCalled, NoDecimal, spelled_out}
-use Rattle.ic_laws.proofs.tokens.Characters.{all_below, at_below}
+use Rattle.ic_laws.proofs.tokens.Characters.{all_below, at_below, not_true}
 use Rattle.ic_laws.proofs.printing.Operands.{first_local, first_reference, digits_first, digit_starts}
-use Rattle.ic_laws.proofs.printing.Signs.{not_true, not_decimal}
+use Rattle.ic_laws.proofs.printing.Signs.{not_decimal}
 use Rattle.ic_laws.proofs.printing.Words.{has_word, error_begins, error_number_small, boolean_small, letter_begins, begins_starts, starts, starts_other}
 
 -- the tokens that may stand after an operand

@@ -15,12 +15,13 @@ use Rattle.ic_laws.specs.NextToken.{all_errors, numbered, token_at}
 use Rattle.ic_laws.specs.AmountFront.{number_in_one_pass}
 use Rattle.ic_laws.specs.Following.{CanSpell, MayFollow}
 use Rattle.ic_laws.specs.Split.{longer}
-use Rattle.ic_laws.proofs.tokens.Characters.{all_below, at_below}
+use Rattle.ic_laws.proofs.tokens.Characters.{all_below, at_below, not_true}
 use Rattle.ic_laws.proofs.tokens.Kinds.{by_kinds}
 use Rattle.ic_laws.proofs.tokens.Locals.{no_local_other}
 use Rattle.ic_laws.proofs.tokens.Quoted.{text_complete}
 use Rattle.ic_laws.proofs.tokens.SignTables.{one_semicolon}
-use Rattle.ic_laws.proofs.tokens.Splits.{none_or_some, none_some, split_sound}
+use Rattle.ic_laws.proofs.tokens.Splits.{none_some, split_sound}
+use Rattle.ic_laws.proofs.parsing.ListFuelLemmas.{option_cases as none_or_some}
 
 -- the characters of signs, and the quote
 abbrev pub is_mark : ℕ → Bool
@@ -29,10 +30,6 @@ is_mark c = list_any (λ x. c == x) (codes "=<>&+-*/^@%#(){};,\"")
 marks_begin_none : all_below (λ c. not (is_mark c) || (not (begins_reference c) && not (begins_word c))) 128 ≡ true
 unfolding ucd_derived
 marks_begin_none = refl
-
-pub not_true : (b : Bool) → not b ≡ true → b ≡ false
-not_true true h = absurd (cc)
-not_true false h = refl
 
 pub mark_begins_none : (c : ℕ) → c < 128 → is_mark c ≡ true → (begins_reference c ≡ false) × (begins_word c ≡ false)
 mark_begins_none c lt h =

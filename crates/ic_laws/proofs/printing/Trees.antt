@@ -85,7 +85,7 @@ pairs_part : (d : DialectMeaning) → IsLawful d → (pairs : List Pair) (body :
 pairs_part d n [] body h b = (λ more c f. b.chain more c (inr f), tt)
 pairs_part d n (pair ∷ pairs) body h b = (word_part d n pair.variable h.0.variable, (λ more c f. h.0.value.chain more c (inr f), pairs_part d n pairs body h.1 b))
 
-none_is : {T : Type 0} (o : Option T) → IsNone o → o ≡ None
+pub none_is : {T : Type 0} (o : Option T) → IsNone o → o ≡ None
 none_is None h = refl
 none_is (Some x) h = absurd (cc)
 

@@ -25,7 +25,8 @@ use Rattle.ic_laws.proofs.tokens.NameReaders.{head_at_complete, word_at_complete
 use Rattle.ic_laws.proofs.tokens.SignTables.{look_holds}
 use Rattle.ic_laws.proofs.tokens.Next.{ComesAfter}
 use Rattle.ic_laws.proofs.printing.Signs.{IsRead, is_mark, mark_begins_none, mark_no_local, no_error_first, no_number, not_decimal, or_neither}
-use Rattle.ic_laws.proofs.tokens.Splits.{best_unique, none_or_some}
+use Rattle.ic_laws.proofs.tokens.Splits.{best_unique}
+use Rattle.ic_laws.proofs.parsing.ListFuelLemmas.{option_cases as none_or_some}
 
 -- the word of a number
 pub has_word : (d : DialectMeaning) (kind : WordKind) (k : ℕ) → IsSome (d.word kind k) → (w : List ℕ) × (d.word kind k ≡ Some w) × (word_text d kind k ≡ w)
@@ -127,7 +128,7 @@ start_no_two c (e ∷ cs) s = ap (option_map (λ (t : Token). (t, cs))) (no_entr
 start_no_one : (d : DialectMeaning) → IsLawful d → (c : ℕ) (cs : List ℕ) → starts c ≡ true → one_at d (c ∷ cs) ≡ None
 start_no_one d n c cs s = ap (option_map (λ (t : Token). (t, cs))) (no_entry (one_table d.list) c [] (one_start d n) s)
 
-longer_none : (a : Option (Token × List ℕ)) → longer a None ≡ a
+pub longer_none : (a : Option (Token × List ℕ)) → longer a None ≡ a
 longer_none None = refl
 longer_none (Some x) = refl
 

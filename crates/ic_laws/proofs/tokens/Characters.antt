@@ -17,7 +17,7 @@ at_below p (suc n) k h lt =
     let parts = and_parts (p n) (all_below p n) h in
     elim (eqb_tells k n) [ inl e ↦ ap p e.1 ∙ parts.0 | inr e ↦ at_below p n k parts.1 (omega (arith, e.1)) ]
 
-not_true : (b : Bool) → not b ≡ true → b ≡ false
+pub not_true : (b : Bool) → not b ≡ true → b ≡ false
 not_true true h = absurd (cc)
 not_true false h = refl
 
@@ -33,11 +33,6 @@ digit_begins_none c h =
     let high : c ≤ 57 = leb-true c 57 parts.1 in
     let is : c - 48 + 48 ≡ c = omega arith in
     not_true (begins_word c) (subst (λ x. not (begins_word x) ≡ true) is (at_below (λ k. not (begins_word (k + 48))) 10 (c - 48) digits_begin_none (omega arith)))
-
--- the same for all of ASCII at once: what is computed here, in one go, reduces each question to an order on numbers
-abbrev same : Bool → Bool → Bool
-same true b = b
-same false b = not b
 
 -- what begins a word goes on with one
 pub begins_goes_on : (c : ℕ) → begins_word c ≡ true → is_word_character c ≡ true

@@ -87,7 +87,7 @@ after_blanks d n text blanks after rest t all whole taken =
     let stops : first_is is_blank after ≡ false = ap (first_is is_blank) taken.whole ∙ b.1 in
     (sym (ap (past_run is_blank) whole ∙ past_run_all is_blank blanks after all stops), subst Begins (sym taken.whole) b.0)
 
-all_past : (text : List ℕ) → list_all is_blank text ≡ true → past_run is_blank text ≡ []
+pub all_past : (text : List ℕ) → list_all is_blank text ≡ true → past_run is_blank text ≡ []
 all_past text h = ap (past_run is_blank) (sym (append-nil text)) ∙ past_run_all is_blank text [] h refl
 
 blank_or_not : (d : DialectMeaning) → IsLawful d → (text : List ℕ) (t : Token) (ts : List Token) → Lexes d text [] → Lexes d text (t ∷ ts) → ⊥

@@ -115,7 +115,7 @@ pub bang_no_word : is_word_character 33 ≡ false
 unfolding ucd_derived
 bang_no_word = refl
 
-plain_words : (name : List ℕ) → list_all is_plain name ≡ true → list_all is_word_character name ≡ true
+pub plain_words : (name : List ℕ) → list_all is_plain name ≡ true → list_all is_word_character name ≡ true
 plain_words [] h = refl
 plain_words (c ∷ cs) h = let p = and_parts (is_plain c) (list_all is_plain cs) h in rw (p.0) (plain_words cs p.1)
 
@@ -187,7 +187,7 @@ no_local_other text h k = rw (no_sheet_no_local text (no_sheet_at_other text h k
 pub no_local_without_bang : (text : List ℕ) → first_is (λ c. c == 39) text ≡ false → first_is (λ c. c == 33) (past_run is_plain text) ≡ false → local_at text ≡ None
 no_local_without_bang text h k = rw (no_sheet_no_local text (no_sheet_without_bang text h k)) refl
 
-end_no_bang : (rest : List ℕ) → IsEnd rest → first_is (λ c. c == 33) (past_run is_plain rest) ≡ false
+pub end_no_bang : (rest : List ℕ) → IsEnd rest → first_is (λ c. c == 33) (past_run is_plain rest) ≡ false
 end_no_bang [] h = refl
 end_no_bang (c ∷ cs) h =
     let a = or_parts (is_word_character c || c == 33 || c == 58 || c == 36) (c == 91) h in

@@ -9,7 +9,8 @@ use Rattle.ic_laws.specs.declared.reference.RefToken.{RefToken}
 use Rattle.ic_laws.specs.Split.{IsBest, IsDecided, FindsBest}
 use Rattle.ic_laws.specs.NextToken.{plain_of, reference_of, token_of, token_at}
 use Rattle.ic_laws.proofs.tokens.Locals.{plain_sound, plain_complete}
-use Rattle.ic_laws.proofs.tokens.Splits.{none_some, none_or_some, or_else_parts, split_best}
+use Rattle.ic_laws.proofs.tokens.Splits.{none_some, or_else_parts, split_best}
+use Rattle.ic_laws.proofs.parsing.ListFuelLemmas.{option_cases as none_or_some}
 
 -- of two of one length any token comes after a reference
 abbrev pub ComesAfter : Token → Token → Type 0

@@ -47,7 +47,7 @@ amount_whole separator text =
     ∙ sym (append_assoc (digits_to last_whole 0 text) (fraction_front separator (past_to last_whole 0 text)) (past_amount separator text))
 
 -- what is taken are digits within the limits
-digits_all : (most n : ℕ) (text : List ℕ) → list_all is_digit (digits_to most n text) ≡ true
+pub digits_all : (most n : ℕ) (text : List ℕ) → list_all is_digit (digits_to most n text) ≡ true
 digits_all most n [] = refl
 digits_all most n (c ∷ cs) =
     elim (cases_Bool (is_digit c && nat_le (n * 10 + digit_value c) most)) [

@@ -2,6 +2,7 @@
 use Rattle.std.proofs.Common.{◌≡◌, ℕ, ◌<◌, ◌≤◌, List, [], ◌∷◌, ◌++◌, ◌⊎◌, length, nat_le, Option, Some, None, option_map, refl, sym, ◌∙◌, ap, subst, inl, inr, arith, append_assoc, length-append}
 use Rattle.std.proofs.lemmas.Bool.{cases_Bool, leb-true, leb-false}
 use Rattle.ic_laws.specs.Split.{or_else, longest_split, IsBest, IsDecided, FindsBest, longer, Either, Yields, ReadsExactly}
+use Rattle.ic_laws.proofs.parsing.ListFuelLemmas.{option_cases as none_or_some}
 
 -- two splits of one text with as much after them are one
 pub same_split : (a b c d : List ℕ) → a ++ b ≡ c ++ d → length b ≡ length d → (a ≡ c) × (b ≡ d)
@@ -143,11 +144,6 @@ module _ {T : Type 0} (A B : T → List ℕ → List ℕ → Type 0) (After : T 
         | inl p ↦ rw p (longer_first text x y yields h k (leb-true (length x.1) (length y.1) p))
         | inr n ↦ rw n (longer_second text x y h k (omega (arith, leb-false (length x.1) (length y.1) n)))
       ]
-
--- options
-pub none_or_some : {T : Type 0} (o : Option T) → (o ≡ None) ⊎ ((x : T) × (o ≡ Some x))
-none_or_some None = inl refl
-none_or_some (Some x) = inr (x, refl)
 
 pub or_else_parts : {T : Type 0} (x y : Option T) (v : T) → or_else x y ≡ Some v → (x ≡ Some v) ⊎ ((x ≡ None) × (y ≡ Some v))
 or_else_parts None y v e = inr (refl, e)

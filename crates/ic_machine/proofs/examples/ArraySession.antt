@@ -28,7 +28,7 @@ use Rattle.ic_machine.specs.Refusal.{ArrayPart, BadArea, ClearArray, MergedPart,
 use Rattle.ic_machine.specs.Step.{outcome_of}
 use Rattle.ic_machine.specs.subjects.Arrays.{array_step, clear_step, with_array, with_contents}
 use Rattle.ic_machine.specs.subjects.Writing.{formula_at_place, input_step, typed_written, with_written}
-use Rattle.ic_machine.proofs.CoreLemmas.{no_cells}
+use Rattle.ic_machine.proofs.as_core.CoreLemmas.{no_cells}
 use Rattle.ic_machine.proofs.examples.Formulas.{small}
 use Rattle.ic_machine.proofs.examples.OneSheet.{by_grid, causes, one_cell, sheet_with, with_first}
 use Rattle.ic_machine.proofs.examples.Session.{answers, done, next, step}

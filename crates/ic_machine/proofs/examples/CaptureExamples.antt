@@ -36,7 +36,7 @@ use Rattle.ic_machine.specs.Content.{Content, FormulaContent, formula_index}
 use Rattle.ic_machine.specs.Refusal.{CellSite, DefinitionSite, InvalidFormula, InvalidName, InvalidScope, NameExists, NameNotFound, Site, WouldCapture}
 use Rattle.ic_machine.specs.Reply.{bool_field}
 use Rattle.ic_machine.specs.subjects.Definitions.{Update, keys_of_update, meets_other, old_key, update_body, update_name_step, update_of, with_body, would_capture_step}
-use Rattle.ic_machine.proofs.CoreLemmas.{no_cells}
+use Rattle.ic_machine.proofs.as_core.CoreLemmas.{no_cells}
 use Rattle.ic_machine.proofs.examples.Small.{start, tables}
 
 -- the words of a value of LET, and those of a node by those below it

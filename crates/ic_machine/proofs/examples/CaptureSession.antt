@@ -42,10 +42,11 @@ use Rattle.ic_machine.specs.Step.{outcome_of}
 use Rattle.ic_machine.specs.subjects.Definitions.{new_definition_step, update_body}
 use Rattle.ic_machine.specs.subjects.Writing.{formula_content}
 use Rattle.ic_machine.proofs.examples.CaptureExamples.{book, formula, key, place, refused_by_y, would_by_y, would_by_z}
-use Rattle.ic_machine.proofs.examples.Formulas.{body_by, dynamic-node, formula_is, in_english, low, made_by, reads, reads_reference, reference, small}
+use Rattle.ic_machine.proofs.examples.Formulas.{body_by, dynamic-node, formula_is, in_english, made_by, reads, reads_reference, reference, small}
 use Rattle.ic_machine.proofs.examples.OneSheet.{formula_done, one_cell, put_first, sheet_with, with_first}
 use Rattle.ic_machine.proofs.examples.Session.{answers, done, next, step}
 use Rattle.ic_machine.proofs.examples.Small.{start, tables}
+use Rattle.ic_tree.proofs.machine.Session.{low}
 
 -- the first cell of the sheet, always the same one
 abbrev first : RefToken

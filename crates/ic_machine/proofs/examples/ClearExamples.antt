@@ -20,7 +20,7 @@ use Rattle.ic_machine.specs.Book.{Entry, Grid, empty_grid, unless_refused}
 use Rattle.ic_machine.specs.Content.{AnchorContent, Content, EmptyContent, NumContent, SpillContent, held}
 use Rattle.ic_machine.specs.Refusal.{BadArea, ClearArray, SpillBlocked}
 use Rattle.ic_machine.specs.subjects.Arrays.{clear_step, put_spill_step, with_grid_contents}
-use Rattle.ic_machine.proofs.CoreLemmas.{no_cells}
+use Rattle.ic_machine.proofs.as_core.CoreLemmas.{no_cells}
 
 abbrev block : ℕ → ℕ → Block
 block width height = record { row = pos 1; column = pos 1; width = pos width; height = pos height }

@@ -54,7 +54,7 @@ use Rattle.ic_machine.specs.Step.{outcome_of}
 use Rattle.ic_machine.specs.subjects.Reading.{cell_formula_step}
 use Rattle.ic_machine.specs.subjects.Sheets.{add_sheet_step, copied_formula, duplicate_sheet_step}
 use Rattle.ic_machine.specs.subjects.Writing.{formula_content}
-use Rattle.ic_machine.proofs.CoreLemmas.{no_cells}
+use Rattle.ic_machine.proofs.as_core.CoreLemmas.{no_cells}
 use Rattle.ic_machine.proofs.examples.CopyExamples.{of_another, of_itself, scene}
 use Rattle.ic_machine.proofs.examples.Formulas.{dynamic-node, formula_is, in_english, reads_reference, reference, shows, small}
 use Rattle.ic_machine.proofs.examples.OneSheet.{formula_done, one_cell, put_first, sheet_with, with_first}

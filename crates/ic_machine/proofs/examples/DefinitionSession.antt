@@ -46,11 +46,12 @@ use Rattle.ic_machine.specs.Refusal.{DefinitionSite, InvalidFormula, InvalidName
 use Rattle.ic_machine.specs.Reply.{NumberField, Reply, TextField}
 use Rattle.ic_machine.specs.Step.{outcome_of}
 use Rattle.ic_machine.specs.subjects.Definitions.{Update, delete_definition_step, keys_of_update, list_step, meets_other, new_definition_step, old_key, update_body, update_name_step, update_of, with_body}
-use Rattle.ic_machine.proofs.CoreLemmas.{no_cells}
+use Rattle.ic_machine.proofs.as_core.CoreLemmas.{no_cells}
 use Rattle.ic_machine.proofs.examples.CaptureExamples.{words-node}
-use Rattle.ic_machine.proofs.examples.Formulas.{body_by, in_english, lambda_or_none, low, made_by, reads, reads_reference, reference, shows, small}
+use Rattle.ic_machine.proofs.examples.Formulas.{body_by, in_english, lambda_or_none, made_by, reads, reads_reference, reference, shows, small}
 use Rattle.ic_machine.proofs.examples.Session.{answers, done, next, step}
 use Rattle.ic_machine.proofs.examples.Small.{start}
+use Rattle.ic_tree.proofs.machine.Session.{low}
 
 -- the cell in this row and column, as it is written from the first cell
 abbrev cell : ℕ → ℕ → Place

@@ -1,7 +1,6 @@
 -- Formulas of the small tables by example: what a text reads as by its tokens, and how a formula is shown.
 use mathlib.Core.Path.{fun_ext}
-use Rattle.std.proofs.Common.{◌≡◌, ℕ, ℤ, suc, pos, List, [], ◌∷◌, ◌++◌, Bool, true, false, Option, Some, None, ◌&&◌, ◌==◌, nat_le, ◌≤◌, option_and_then, option_map, codes, ap, arith, ◌∙◌}
-use Rattle.std.proofs.lemmas.Bool.Decides.{nat_tests}
+use Rattle.std.proofs.Common.{◌≡◌, ℕ, ℤ, suc, pos, List, [], ◌∷◌, ◌++◌, Bool, true, false, Option, Some, None, ◌&&◌, ◌==◌, option_and_then, option_map, codes, ap, arith, ◌∙◌}
 use Rattle.std.specs.Option.{option_or}
 use Rattle.std.specs.Prelude.{is_none, not}
 use Rattle.ic_laws.specs.Binding.{BoundPair, bound, spelled}
@@ -20,7 +19,7 @@ use Rattle.ic_laws.specs.ReadAs.{read_as}
 use Rattle.ic_laws.specs.Refusal as refusals
 use Rattle.ic_laws.specs.Scan.{first_is}
 use Rattle.ic_laws.specs.Token.{Token, Ref}
-use Rattle.ic_laws.specs.Tree.{Bound, Spelled, height, is_written_sheet}
+use Rattle.ic_laws.specs.Tree.{Bound, Spelled, is_written_sheet}
 use Rattle.ic_laws.specs.Yield.{yield}
 use Rattle.ic_laws.specs.declared.reference.RefToken.{RefToken}
 use Rattle.ic_laws.specs.declared.tree.Formula.TheVariants as formulas
@@ -38,6 +37,7 @@ use Rattle.ic_tree.specs.Shown.{shown_meaning}
 use Rattle.ic_machine.specs.Book.{Book, Stepped, as_core, core_of, scene_in}
 use Rattle.ic_machine.specs.subjects.Definitions.{with_new_definition}
 use Rattle.ic_machine.proofs.examples.Small.{english_words, tables}
+use Rattle.ic_tree.proofs.machine.Session.{low}
 
 abbrev pub small : Notations
 small = notations_of tables
@@ -45,10 +45,6 @@ small = notations_of tables
 -- the shown form in English
 abbrev pub in_english : ℤ → ℤ → DialectMeaning
 in_english row column = shown_meaning english_words english_words 44 46 row column
-
--- a height that a number bounds
-pub low : (t : Spelled) (most : ℕ) → height t ≤ most → nat_le (height t) most ≡ true
-low t most h = grind (arith, nat_tests)
 
 -- a tree where all of the tokens are read
 abbrev pub whole : Read Spelled → Option Spelled

@@ -29,7 +29,7 @@ use Rattle.ic_machine.specs.Reply.{Reply, TextField, text_field}
 use Rattle.ic_machine.specs.Step.{outcome_of}
 use Rattle.ic_machine.specs.subjects.Arrays.{clear_step}
 use Rattle.ic_machine.specs.subjects.Reading.{formatted_content, formatted_step}
-use Rattle.ic_machine.proofs.CoreLemmas.{no_cells}
+use Rattle.ic_machine.proofs.as_core.CoreLemmas.{no_cells}
 use Rattle.ic_machine.proofs.examples.OneSheet.{by_grid, input_done, one_cell, one_entry, put_first, sheet_with, with_first}
 use Rattle.ic_machine.proofs.examples.Session.{answers, done, next, step}
 use Rattle.ic_machine.proofs.examples.Small.{start}

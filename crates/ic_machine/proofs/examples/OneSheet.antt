@@ -18,7 +18,7 @@ use Rattle.ic_machine.specs.Reply.{Reply}
 use Rattle.ic_machine.specs.Step.{outcome_of}
 use Rattle.ic_machine.specs.Styling.{restyled}
 use Rattle.ic_machine.specs.subjects.Writing.{Written, formula_at_place, formula_step, formula_written, input_step, place_causes, typed_written, with_styled, with_written, write_causes}
-use Rattle.ic_machine.proofs.CoreLemmas.{no_cells}
+use Rattle.ic_machine.proofs.as_core.CoreLemmas.{no_cells}
 
 -- the first sheet with this pool and these cells
 abbrev pub sheet_with : List Formula → Contents Content → Sheet

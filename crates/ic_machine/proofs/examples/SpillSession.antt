@@ -56,7 +56,7 @@ use Rattle.ic_machine.specs.Step.{outcome_of}
 use Rattle.ic_machine.specs.subjects.Arrays.{put_spill_step, put_value_step, spill_causes}
 use Rattle.ic_machine.specs.subjects.Reading.{all_cells_step, empty_step, place_fields, type_name, type_step, value_fields, value_step}
 use Rattle.ic_machine.specs.subjects.Writing.{formula_content}
-use Rattle.ic_machine.proofs.CoreLemmas.{no_cells}
+use Rattle.ic_machine.proofs.as_core.CoreLemmas.{no_cells}
 use Rattle.ic_machine.proofs.examples.Formulas.{dynamic-node, formula_is, in_english, reads_reference, reference, small}
 use Rattle.ic_machine.proofs.examples.OneSheet.{by_grid, input_done, one_cell, put_first, sheet_with, with_first}
 use Rattle.ic_machine.proofs.examples.Session.{answers, done, next, step}

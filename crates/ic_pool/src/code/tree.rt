@@ -12,7 +12,6 @@ use super::numbers::{
 use super::texts::{write_text, write_texts};
 use crate::Key;
 use ic_laws::{Bound, LetPair, NameMention, OutOfMemory, Place, RefPart, SheetMention, Tree};
-use std::alloc::Global;
 
 /// Writes two corners.
 fn write_parts(key: &mut Key, p: RefPart, q: RefPart) -> Result<(), OutOfMemory>

@@ -27,9 +27,6 @@ module _ (d : DialectMeaning) where
   out-append : (a b : List Token) → out (a ++ b) ≡ out a ++ out b
   out-append a b = flat_map-append (token_text d) a b
 
-  out-one : (t : Token) → out (t ∷ []) ≡ token_text d t
-  out-one t = append-nil (token_text d t)
-
   -- parts with a sign between each two of them, from one that isn't the first
   after : {A : Type 0} (sign : Token) (c : ℕ) (f : A → List Token) (n : ℕ) (x : A) (xs : List A) → token_text d sign ≡ c ∷ []
       → out (joined sign (map f (x ∷ xs))) ≡ out (f x) ++ each_from c (suc n) (λ y. out (f y)) xs

@@ -1,7 +1,7 @@
 ghost use Rattle.std.specs.Prelude.{◌≡◌, [], IfOk, OnErr, false, option_map};
 ghost use Rattle.ic_tables.specs.Words.{error_words};
 ghost use Rattle.ic_machine.specs.Command.{OnArrays};
-ghost use Rattle.ic_machine.specs.Row.{named};
+ghost use Rattle.ic_machine.specs.Row.{joined, named};
 ghost use Rattle.ic_machine.specs.subjects.Arrays.{array_rows};
 ghost use Rattle.ic_words.specs.Command.{command_meant};
 ghost use Rattle.ic_words.specs.Words.{HaveEscape, copies_values, words_left};
@@ -53,13 +53,13 @@ pub enum Arrays<'l> {
 /// The command on arrays, spills and clearing of this name, by the words that are left, unless they are values.
 pub(crate) fn arrays_in<'l>(alloc: Global, name: &str, rest: Option<&'l str>) -> Made<Arrays<'l>>
     ensures exact { copies_values name.now ≡ false → IfOk result
-        (λ made. option_map (option_map arrays_meant) made
-        ≡ named [] array_rows name.now (words_left rest.entry)) }
+        (λ made. option_map arrays_meant made
+        ≡ joined (named [] array_rows name.now (words_left rest.entry))) }
     ensures memory { OnErr result (HaveEscape (words_left rest.entry)) }
 {
     match name {
         "set_user_array_formula" => match Words::of(alloc, rest)? {
-            Some((sheet, (row, (column, (width, (height, (text, ()))))))) => Ok(Some(Some(
+            Some((sheet, (row, (column, (width, (height, (text, ()))))))) => Ok(Some(
                 Arrays::SetUserArrayFormula {
                     sheet,
                     row,
@@ -68,24 +68,24 @@ pub(crate) fn arrays_in<'l>(alloc: Global, name: &str, rest: Option<&'l str>) ->
                     height,
                     text,
                 },
-            ))),
-            None => Ok(Some(None)),
+            )),
+            None => Ok(None),
         },
         "range_clear_contents" => match Words::of(alloc, rest)? {
-            Some((sheet, (row, (column, (width, (height, ())))))) => Ok(Some(Some(
+            Some((sheet, (row, (column, (width, (height, ())))))) => Ok(Some(
                 Arrays::RangeClearContents {
                     range: area(sheet, row, column, width, height),
                 },
-            ))),
-            None => Ok(Some(None)),
+            )),
+            None => Ok(None),
         },
         "range_clear_all" => match Words::of(alloc, rest)? {
-            Some((sheet, (row, (column, (width, (height, ())))))) => Ok(Some(Some(
+            Some((sheet, (row, (column, (width, (height, ())))))) => Ok(Some(
                 Arrays::RangeClearAll {
                     area: area(sheet, row, column, width, height),
                 },
-            ))),
-            None => Ok(Some(None)),
+            )),
+            None => Ok(None),
         },
         _ => Ok(None),
     }

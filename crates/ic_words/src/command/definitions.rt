@@ -1,5 +1,5 @@
 ghost use Rattle.std.specs.Prelude.{◌≡◌, [], IfOk, OnErr, option_map};
-ghost use Rattle.ic_machine.specs.Row.{named};
+ghost use Rattle.ic_machine.specs.Row.{joined, named};
 ghost use Rattle.ic_machine.specs.Word.{Done, OfScope, OfText, Then};
 ghost use Rattle.ic_machine.specs.subjects.Definitions.{definition_rows};
 ghost use Rattle.ic_words.specs.Words.{HaveEscape, words_left};
@@ -92,45 +92,42 @@ pub(crate) fn definitions_in<'l>(
     name: &str,
     rest: Option<&'l str>,
 ) -> Made<Definitions<'l>>
-    ensures exact { IfOk result (λ made. option_map (option_map definitions_meant) made
-        ≡ named [] definition_rows name.now (words_left rest.entry)) }
+    ensures exact { IfOk result (λ made. option_map definitions_meant made
+        ≡ joined (named [] definition_rows name.now (words_left rest.entry))) }
     ensures memory { OnErr result (HaveEscape (words_left rest.entry)) }
 {
     match name {
         "new_defined_name" => match Words::of(alloc, rest)? {
-            Some((name, (scope, (body, ())))) => Ok(Some(Some(Definitions::NewDefinedName {
+            Some((name, (scope, (body, ())))) => Ok(Some(Definitions::NewDefinedName {
                 name,
                 scope,
                 body,
-            }))),
-            None => Ok(Some(None)),
+            })),
+            None => Ok(None),
         },
         "delete_defined_name" => match Words::of(alloc, rest)? {
-            Some((name, (scope, ()))) => Ok(Some(Some(Definitions::DeleteDefinedName {
-                name,
-                scope,
-            }))),
-            None => Ok(Some(None)),
+            Some((name, (scope, ()))) => Ok(Some(Definitions::DeleteDefinedName { name, scope })),
+            None => Ok(None),
         },
         "update_defined_name" => match Words::of(alloc, rest)? {
-            Some(update) => Ok(Some(Some(Definitions::UpdateDefinedName { update }))),
-            None => Ok(Some(None)),
+            Some(update) => Ok(Some(Definitions::UpdateDefinedName { update })),
+            None => Ok(None),
         },
         "would_capture" => match Words::of(alloc, rest)? {
-            Some(update) => Ok(Some(Some(Definitions::WouldCapture { update }))),
-            None => Ok(Some(None)),
+            Some(update) => Ok(Some(Definitions::WouldCapture { update })),
+            None => Ok(None),
         },
         "is_valid_defined_name" => match Words::of(alloc, rest)? {
-            Some((name, (scope, (body, ())))) => Ok(Some(Some(Definitions::IsValidDefinedName {
+            Some((name, (scope, (body, ())))) => Ok(Some(Definitions::IsValidDefinedName {
                 name,
                 scope,
                 body,
-            }))),
-            None => Ok(Some(None)),
+            })),
+            None => Ok(None),
         },
         "get_defined_name_list" => match Words::of(alloc, rest)? {
-            Some(()) => Ok(Some(Some(Definitions::GetDefinedNameList))),
-            None => Ok(Some(None)),
+            Some(()) => Ok(Some(Definitions::GetDefinedNameList)),
+            None => Ok(None),
         },
         _ => Ok(None),
     }

@@ -1,5 +1,5 @@
 ghost use Rattle.std.specs.Prelude.{◌≡◌, [], IfOk, OnErr, option_map};
-ghost use Rattle.ic_machine.specs.Row.{named};
+ghost use Rattle.ic_machine.specs.Row.{joined, named};
 ghost use Rattle.ic_machine.specs.subjects.Extending.{extending_rows};
 ghost use Rattle.ic_words.specs.Words.{HaveEscape, words_left};
 ghost use Rattle.ic_words.specs.subjects.Extending.{extending_meant};
@@ -37,13 +37,13 @@ pub(crate) fn extending_in<'l>(
     name: &str,
     rest: Option<&'l str>,
 ) -> Made<Extending<'l>>
-    ensures exact { IfOk result (λ made. option_map (option_map extending_meant) made
-        ≡ named [] extending_rows name.now (words_left rest.entry)) }
+    ensures exact { IfOk result (λ made. option_map extending_meant made
+        ≡ joined (named [] extending_rows name.now (words_left rest.entry))) }
     ensures memory { OnErr result (HaveEscape (words_left rest.entry)) }
 {
     match name {
         "extend_to" => match Words::of(alloc, rest)? {
-            Some((sheet, (row, (column, (target_row, (target_column, ())))))) => Ok(Some(Some(
+            Some((sheet, (row, (column, (target_row, (target_column, ())))))) => Ok(Some(
                 Extending::ExtendTo {
                     sheet,
                     row,
@@ -51,22 +51,22 @@ pub(crate) fn extending_in<'l>(
                     target_row,
                     target_column,
                 },
-            ))),
-            None => Ok(Some(None)),
+            )),
+            None => Ok(None),
         },
         "extend_copied_value" => match Words::of(alloc, rest)? {
             Some((text, (sheet, (row, (column, (to_sheet, (to_row, (to_column, ())))))))) => Ok(
-                Some(Some(Extending::ExtendCopiedValue {
+                Some(Extending::ExtendCopiedValue {
                     text,
                     source: cell_at(sheet, row, column),
                     target: cell_at(to_sheet, to_row, to_column),
-                })),
+                }),
             ),
-            None => Ok(Some(None)),
+            None => Ok(None),
         },
         "parse_reference" => match Words::of(alloc, rest)? {
-            Some((text, ())) => Ok(Some(Some(Extending::ParseReference { text }))),
-            None => Ok(Some(None)),
+            Some((text, ())) => Ok(Some(Extending::ParseReference { text })),
+            None => Ok(None),
         },
         _ => Ok(None),
     }

@@ -1,5 +1,5 @@
 ghost use Rattle.std.specs.Prelude.{◌≡◌, [], IfOk, OnErr, option_map};
-ghost use Rattle.ic_machine.specs.Row.{named};
+ghost use Rattle.ic_machine.specs.Row.{joined, named};
 ghost use Rattle.ic_machine.specs.subjects.Layout.{layout_rows};
 ghost use Rattle.ic_words.specs.Words.{HaveEscape, words_left};
 ghost use Rattle.ic_words.specs.subjects.Layout.{layout_meant};
@@ -52,58 +52,58 @@ pub enum Layout {
 
 /// The command on the layout of rows and columns of this name, by the words that are left.
 pub(crate) fn layout_in(alloc: Global, name: &str, rest: Option<&str>) -> Made<Layout>
-    ensures exact { IfOk result (λ made. option_map (option_map layout_meant) made
-        ≡ named [] layout_rows name.now (words_left rest.entry)) }
+    ensures exact { IfOk result (λ made. option_map layout_meant made
+        ≡ joined (named [] layout_rows name.now (words_left rest.entry))) }
     ensures memory { OnErr result (HaveEscape (words_left rest.entry)) }
 {
     match name {
         "set_column_width" => match Words::of(alloc, rest)? {
-            Some((sheet, (column, (width, ())))) => Ok(Some(Some(Layout::SetColumnWidth {
+            Some((sheet, (column, (width, ())))) => Ok(Some(Layout::SetColumnWidth {
                 sheet,
                 column,
                 width,
-            }))),
-            None => Ok(Some(None)),
+            })),
+            None => Ok(None),
         },
         "set_row_height" => match Words::of(alloc, rest)? {
-            Some((sheet, (row, (height, ())))) => Ok(Some(Some(Layout::SetRowHeight {
+            Some((sheet, (row, (height, ())))) => Ok(Some(Layout::SetRowHeight {
                 sheet,
                 row,
                 height,
-            }))),
-            None => Ok(Some(None)),
+            })),
+            None => Ok(None),
         },
         "get_column_width" => match Words::of(alloc, rest)? {
-            Some((sheet, (column, ()))) => Ok(Some(Some(Layout::GetColumnWidth { sheet, column }))),
-            None => Ok(Some(None)),
+            Some((sheet, (column, ()))) => Ok(Some(Layout::GetColumnWidth { sheet, column })),
+            None => Ok(None),
         },
         "get_row_height" => match Words::of(alloc, rest)? {
-            Some((sheet, (row, ()))) => Ok(Some(Some(Layout::GetRowHeight { sheet, row }))),
-            None => Ok(Some(None)),
+            Some((sheet, (row, ()))) => Ok(Some(Layout::GetRowHeight { sheet, row })),
+            None => Ok(None),
         },
         "set_column_hidden" => match Words::of(alloc, rest)? {
-            Some((sheet, (column, (hidden, ())))) => Ok(Some(Some(Layout::SetColumnHidden {
+            Some((sheet, (column, (hidden, ())))) => Ok(Some(Layout::SetColumnHidden {
                 sheet,
                 column,
                 hidden,
-            }))),
-            None => Ok(Some(None)),
+            })),
+            None => Ok(None),
         },
         "set_row_hidden" => match Words::of(alloc, rest)? {
-            Some((sheet, (row, (hidden, ())))) => Ok(Some(Some(Layout::SetRowHidden {
+            Some((sheet, (row, (hidden, ())))) => Ok(Some(Layout::SetRowHidden {
                 sheet,
                 row,
                 hidden,
-            }))),
-            None => Ok(Some(None)),
+            })),
+            None => Ok(None),
         },
         "is_column_hidden" => match Words::of(alloc, rest)? {
-            Some((sheet, (column, ()))) => Ok(Some(Some(Layout::IsColumnHidden { sheet, column }))),
-            None => Ok(Some(None)),
+            Some((sheet, (column, ()))) => Ok(Some(Layout::IsColumnHidden { sheet, column })),
+            None => Ok(None),
         },
         "is_row_hidden" => match Words::of(alloc, rest)? {
-            Some((sheet, (row, ()))) => Ok(Some(Some(Layout::IsRowHidden { sheet, row }))),
-            None => Ok(Some(None)),
+            Some((sheet, (row, ()))) => Ok(Some(Layout::IsRowHidden { sheet, row })),
+            None => Ok(None),
         },
         _ => Ok(None),
     }

@@ -1,5 +1,5 @@
 ghost use Rattle.std.specs.Prelude.{◌≡◌, [], IfOk, OnErr, option_map};
-ghost use Rattle.ic_machine.specs.Row.{named};
+ghost use Rattle.ic_machine.specs.Row.{joined, named};
 ghost use Rattle.ic_machine.specs.subjects.Notation.{notation_rows};
 ghost use Rattle.ic_words.specs.Words.{HaveEscape, words_left};
 ghost use Rattle.ic_words.specs.subjects.Notation.{notation_meant};
@@ -27,38 +27,38 @@ pub(crate) fn notation_in<'l>(
     name: &str,
     rest: Option<&'l str>,
 ) -> Made<Notation<'l>>
-    ensures exact { IfOk result (λ made. option_map (option_map notation_meant) made
-        ≡ named [] notation_rows name.now (words_left rest.entry)) }
+    ensures exact { IfOk result (λ made. option_map notation_meant made
+        ≡ joined (named [] notation_rows name.now (words_left rest.entry))) }
     ensures memory { OnErr result (HaveEscape (words_left rest.entry)) }
 {
     match name {
         "set_locale" => match Words::of(alloc, rest)? {
-            Some((id, ())) => Ok(Some(Some(Notation::SetLocale { id }))),
-            None => Ok(Some(None)),
+            Some((id, ())) => Ok(Some(Notation::SetLocale { id })),
+            None => Ok(None),
         },
         "set_language" => match Words::of(alloc, rest)? {
-            Some((id, ())) => Ok(Some(Some(Notation::SetLanguage { id }))),
-            None => Ok(Some(None)),
+            Some((id, ())) => Ok(Some(Notation::SetLanguage { id })),
+            None => Ok(None),
         },
         "set_timezone" => match Words::of(alloc, rest)? {
-            Some((id, ())) => Ok(Some(Some(Notation::SetTimezone { id }))),
-            None => Ok(Some(None)),
+            Some((id, ())) => Ok(Some(Notation::SetTimezone { id })),
+            None => Ok(None),
         },
         "get_locale" => match Words::of(alloc, rest)? {
-            Some(()) => Ok(Some(Some(Notation::GetLocale))),
-            None => Ok(Some(None)),
+            Some(()) => Ok(Some(Notation::GetLocale)),
+            None => Ok(None),
         },
         "get_language" => match Words::of(alloc, rest)? {
-            Some(()) => Ok(Some(Some(Notation::GetLanguage))),
-            None => Ok(Some(None)),
+            Some(()) => Ok(Some(Notation::GetLanguage)),
+            None => Ok(None),
         },
         "get_timezone" => match Words::of(alloc, rest)? {
-            Some(()) => Ok(Some(Some(Notation::GetTimezone))),
-            None => Ok(Some(None)),
+            Some(()) => Ok(Some(Notation::GetTimezone)),
+            None => Ok(None),
         },
         "get_fmt_settings" => match Words::of(alloc, rest)? {
-            Some(()) => Ok(Some(Some(Notation::GetFmtSettings))),
-            None => Ok(Some(None)),
+            Some(()) => Ok(Some(Notation::GetFmtSettings)),
+            None => Ok(None),
         },
         _ => Ok(None),
     }

@@ -1,5 +1,5 @@
 ghost use Rattle.std.specs.Prelude.{◌≡◌, [], IfOk, OnErr, option_map};
-ghost use Rattle.ic_machine.specs.Row.{named};
+ghost use Rattle.ic_machine.specs.Row.{joined, named};
 ghost use Rattle.ic_machine.specs.subjects.Reading.{reading_rows};
 ghost use Rattle.ic_words.specs.Words.{HaveEscape, words_left};
 ghost use Rattle.ic_words.specs.subjects.Reading.{reading_meant};
@@ -25,70 +25,70 @@ pub enum Reading<'l> {
 
 /// The command of this name that reads cells, by the words that are left.
 pub(crate) fn reading_in<'l>(alloc: Global, name: &str, rest: Option<&'l str>) -> Made<Reading<'l>>
-    ensures exact { IfOk result (λ made. option_map (option_map reading_meant) made
-        ≡ named [] reading_rows name.now (words_left rest.entry)) }
+    ensures exact { IfOk result (λ made. option_map reading_meant made
+        ≡ joined (named [] reading_rows name.now (words_left rest.entry))) }
     ensures memory { OnErr result (HaveEscape (words_left rest.entry)) }
 {
     match name {
         "get_cell_formula" => match Words::of(alloc, rest)? {
-            Some((sheet, (row, (column, ())))) => Ok(Some(Some(Reading::GetCellFormula {
+            Some((sheet, (row, (column, ())))) => Ok(Some(Reading::GetCellFormula {
                 sheet,
                 row,
                 column,
-            }))),
-            None => Ok(Some(None)),
+            })),
+            None => Ok(None),
         },
         "get_localized_cell_content" => match Words::of(alloc, rest)? {
-            Some((sheet, (row, (column, ())))) => Ok(Some(Some(Reading::GetLocalizedCellContent {
+            Some((sheet, (row, (column, ())))) => Ok(Some(Reading::GetLocalizedCellContent {
                 sheet,
                 row,
                 column,
-            }))),
-            None => Ok(Some(None)),
+            })),
+            None => Ok(None),
         },
         "get_formatted_cell_value" => match Words::of(alloc, rest)? {
-            Some((sheet, (row, (column, ())))) => Ok(Some(Some(Reading::GetFormattedCellValue {
+            Some((sheet, (row, (column, ())))) => Ok(Some(Reading::GetFormattedCellValue {
                 sheet,
                 row,
                 column,
-            }))),
-            None => Ok(Some(None)),
+            })),
+            None => Ok(None),
         },
         "get_cell_value_by_index" => match Words::of(alloc, rest)? {
-            Some((sheet, (row, (column, ())))) => Ok(Some(Some(Reading::GetCellValueByIndex {
+            Some((sheet, (row, (column, ())))) => Ok(Some(Reading::GetCellValueByIndex {
                 sheet,
                 row,
                 column,
-            }))),
-            None => Ok(Some(None)),
+            })),
+            None => Ok(None),
         },
         "get_cell_value_by_ref" => match Words::of(alloc, rest)? {
-            Some((text, ())) => Ok(Some(Some(Reading::GetCellValueByRef { text }))),
-            None => Ok(Some(None)),
+            Some((text, ())) => Ok(Some(Reading::GetCellValueByRef { text })),
+            None => Ok(None),
         },
         "get_cell_type" => match Words::of(alloc, rest)? {
-            Some((sheet, (row, (column, ())))) => Ok(Some(Some(Reading::GetCellType {
+            Some((sheet, (row, (column, ())))) => Ok(Some(Reading::GetCellType {
                 sheet,
                 row,
                 column,
-            }))),
-            None => Ok(Some(None)),
+            })),
+            None => Ok(None),
         },
         "is_empty_cell" => match Words::of(alloc, rest)? {
-            Some((sheet, (row, (column, ())))) => Ok(Some(Some(Reading::IsEmptyCell {
+            Some((sheet, (row, (column, ())))) => Ok(Some(Reading::IsEmptyCell {
                 sheet,
                 row,
                 column,
-            }))),
-            None => Ok(Some(None)),
+            })),
+            None => Ok(None),
         },
         "get_all_cells" => match Words::of(alloc, rest)? {
-            Some(()) => Ok(Some(Some(Reading::GetAllCells))),
-            None => Ok(Some(None)),
+            Some(()) => Ok(Some(Reading::GetAllCells)),
+            None => Ok(None),
         },
         "get_sheet_markup" => match Words::of(alloc, rest)? {
-            Some((sheet, ())) => Ok(Some(Some(Reading::GetSheetMarkup { sheet }))),
-            None => Ok(Some(None)),
+            Some((sheet, ())) => Ok(Some(Reading::GetSheetMarkup { sheet })),
+            None => Ok(None),
         },
         _ => Ok(None),
     }

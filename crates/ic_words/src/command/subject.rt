@@ -1,18 +1,11 @@
-//! The commands of one subject among those of all.
-ghost use Rattle.std.specs.Prelude.{◌≡◌, [], IfNone, IfOk, None, OnErr, false};
-ghost use Rattle.ic_machine.specs.Row.{named};
-ghost use Rattle.ic_machine.specs.subjects.Arrays.{array_rows};
-ghost use Rattle.ic_machine.specs.subjects.Definitions.{definition_rows};
-ghost use Rattle.ic_machine.specs.subjects.Extending.{extending_rows};
-ghost use Rattle.ic_machine.specs.subjects.Layout.{layout_rows};
-ghost use Rattle.ic_machine.specs.subjects.Notation.{notation_rows};
-ghost use Rattle.ic_machine.specs.subjects.Reading.{reading_rows};
-ghost use Rattle.ic_machine.specs.subjects.Sheets.{sheet_rows};
-ghost use Rattle.ic_machine.specs.subjects.Styles.{style_rows};
-ghost use Rattle.ic_machine.specs.subjects.Tabs.{tab_rows};
-ghost use Rattle.ic_machine.specs.subjects.Writing.{writing_rows};
-ghost use Rattle.ic_words.specs.Command.{IsCommand};
+//! The one subject that may have a name.
+ghost use Rattle.std.specs.Prelude.{◌≡◌, [], IfOk, OnErr, false, option_map};
+ghost use Rattle.ic_machine.specs.Command.{commands};
+ghost use Rattle.ic_machine.specs.Row.{joined, named};
+ghost use Rattle.ic_words.specs.Command.{command_meant};
+ghost use Rattle.ic_words.specs.Subject.{subject_of};
 ghost use Rattle.ic_words.specs.Words.{HaveEscape, copies_values, words_left};
+ghost use Rattle.ic_words.specs.declared.command.subject.Subject.TheVariants as subjects;
 
 use super::arrays::arrays_in;
 use super::definitions::definitions_in;
@@ -29,7 +22,7 @@ use std::alloc::Global;
 
 /// What commands are about.
 #[derive(Clone, Copy)]
-enum Subject {
+pub(crate) enum Subject {
     Sheets,
     Definitions,
     Notation,
@@ -42,28 +35,30 @@ enum Subject {
     Arrays,
 }
 
-/// The subject in which a name is looked for first. The length of a name and one letter tell the subjects of all commands
-/// apart. A wrong guess costs time alone.
-fn guess(name: &str) -> Subject {
+/// The one subject that may have a name: its length and one letter tell the subjects of all commands apart.
+pub(crate) fn subject_of(name: &str) -> Subject
+    ensures { result ≡ subject_of name.now }
+{
     let bytes = name.as_bytes();
     match bytes.len() {
-        9 => match bytes[8] {
-            b'o' => Subject::Extending,
-            b't' => Subject::Sheets,
+        9 => match bytes[7] {
+            b'e' => Subject::Sheets,
+            b'l' => Subject::Arrays,
+            b't' => Subject::Extending,
             _ => Subject::Tabs,
         },
-        10 => match bytes[9] {
-            b'e' => Subject::Notation,
+        10 => match bytes[0] {
+            b'm' => Subject::Sheets,
+            _ => Subject::Notation,
+        },
+        12 => match bytes[2] {
+            b't' => Subject::Notation,
             _ => Subject::Sheets,
         },
-        12 => match bytes[11] {
-            b'e' => Subject::Notation,
-            _ => Subject::Sheets,
-        },
-        13 => match bytes[6] {
-            b'c' => Subject::Definitions,
-            b'_' => Subject::Layout,
-            b'w' => Subject::Styles,
+        13 => match bytes[4] {
+            b'd' => Subject::Definitions,
+            b'o' => Subject::Layout,
+            b'r' => Subject::Styles,
             _ => Subject::Reading,
         },
         14 => match bytes[4] {
@@ -71,226 +66,208 @@ fn guess(name: &str) -> Subject {
             _ => Subject::Writing,
         },
         15 => match bytes[0] {
-            b'r' => Subject::Arrays,
-            b'p' => Subject::Extending,
             b'd' => Subject::Sheets,
+            b'p' => Subject::Extending,
+            b'r' => Subject::Arrays,
             _ => Subject::Tabs,
         },
         16 => match bytes[13] {
+            b'_' => Subject::Sheets,
             b'a' => Subject::Definitions,
             b'd' => Subject::Layout,
             b'n' => Subject::Notation,
-            b'_' => Subject::Sheets,
             b'y' => Subject::Styles,
             _ => Subject::Reading,
         },
-        17 => Subject::Layout,
+        17 => match bytes[0] {
+            b'p' => Subject::Arrays,
+            _ => Subject::Layout,
+        },
         18 => match bytes[0] {
             b'g' => Subject::Styles,
             _ => Subject::Tabs,
         },
         19 => match bytes[9] {
             b'f' => Subject::Definitions,
-            b'p' => Subject::Extending,
             b'l' => Subject::Styles,
+            b'p' => Subject::Extending,
             _ => Subject::Tabs,
         },
         20 => match bytes[0] {
-            b'r' => Subject::Arrays,
             b'd' => Subject::Sheets,
-            _ => Subject::Styles,
+            b'g' => Subject::Styles,
+            _ => Subject::Arrays,
         },
         21 => match bytes[4] {
-            b'a' | b'd' => Subject::Definitions,
             b'c' => Subject::Reading,
-            b'm' => Subject::Sheets,
             b'f' => Subject::Tabs,
-            _ => Subject::Writing,
+            b'm' => Subject::Sheets,
+            b't' => Subject::Writing,
+            _ => Subject::Definitions,
         },
         22 => match bytes[0] {
-            b's' => Subject::Arrays,
-            _ => Subject::Styles,
+            b'g' => Subject::Styles,
+            _ => Subject::Arrays,
         },
         23 => match bytes[0] {
             b'g' => Subject::Reading,
             _ => Subject::Writing,
         },
         24 => match bytes[7] {
+            b'c' => Subject::Writing,
             b'm' => Subject::Reading,
             b's' => Subject::Sheets,
-            b'z' => Subject::Tabs,
-            _ => Subject::Writing,
+            _ => Subject::Tabs,
         },
         26 => Subject::Reading,
         _ => Subject::Sheets,
     }
 }
 
-/// The command of this name, where the subject that is guessed has the name; None where it lacks it.
-pub(crate) fn likely<'l>(alloc: Global, name: &str, rest: Option<&'l str>) -> Made<Command<'l>>
-    ensures exact { copies_values name.now ≡ false → IfOk result
-        (IsCommand name.now (words_left rest.entry)) }
-    ensures memory { OnErr result (HaveEscape (words_left rest.entry)) }
-{
-    match guess(name) {
-        Subject::Sheets => in_sheets(alloc, name, rest),
-        Subject::Definitions => in_definitions(alloc, name, rest),
-        Subject::Notation => in_notation(alloc, name, rest),
-        Subject::Writing => in_writing(alloc, name, rest),
-        Subject::Reading => in_reading(alloc, name, rest),
-        Subject::Extending => in_extending(alloc, name, rest),
-        Subject::Styles => in_styles(alloc, name, rest),
-        Subject::Layout => in_layout(alloc, name, rest),
-        Subject::Tabs => in_tabs(alloc, name, rest),
-        Subject::Arrays => in_arrays(alloc, name, rest),
-    }
-}
-
-/// The command of this name that writes a cell; None where the subject lacks the name.
+/// The command of this name that writes a cell, where no other subject has the name.
 pub(crate) fn in_writing<'l>(alloc: Global, name: &str, rest: Option<&'l str>) -> Made<Command<'l>>
-    ensures exact { IfOk result (IsCommand name.now (words_left rest.entry)) }
-    ensures none { IfOk result (λ made. IfNone made
-        (named [] writing_rows name.now (words_left rest.entry) ≡ None)) }
+    requires { subject_of name.now ≡ subjects.Writing }
+    ensures exact { IfOk result
+        (λ command. option_map command_meant command
+        ≡ joined (named [] commands name.now (words_left rest.entry))) }
     ensures memory { OnErr result (HaveEscape (words_left rest.entry)) }
 {
     match writing_in(alloc, name, rest)? {
-        Some(Some(command)) => Ok(Some(Some(Command::Writing(command)))),
-        Some(None) => Ok(Some(None)),
+        Some(command) => Ok(Some(Command::Writing(command))),
         None => Ok(None),
     }
 }
 
-/// The command of this name that reads cells; None where the subject lacks the name.
+/// The command of this name that reads cells, where no other subject has the name.
 pub(crate) fn in_reading<'l>(alloc: Global, name: &str, rest: Option<&'l str>) -> Made<Command<'l>>
-    ensures exact { IfOk result (IsCommand name.now (words_left rest.entry)) }
-    ensures none { IfOk result (λ made. IfNone made
-        (named [] reading_rows name.now (words_left rest.entry) ≡ None)) }
+    requires { subject_of name.now ≡ subjects.Reading }
+    ensures exact { IfOk result
+        (λ command. option_map command_meant command
+        ≡ joined (named [] commands name.now (words_left rest.entry))) }
     ensures memory { OnErr result (HaveEscape (words_left rest.entry)) }
 {
     match reading_in(alloc, name, rest)? {
-        Some(Some(command)) => Ok(Some(Some(Command::Reading(command)))),
-        Some(None) => Ok(Some(None)),
+        Some(command) => Ok(Some(Command::Reading(command))),
         None => Ok(None),
     }
 }
 
-/// The command of this name on arrays, spills and clearing; None where the subject lacks the name.
+/// The command of this name on arrays, spills and clearing, where no other subject has the name.
 pub(crate) fn in_arrays<'l>(alloc: Global, name: &str, rest: Option<&'l str>) -> Made<Command<'l>>
+    requires { subject_of name.now ≡ subjects.Arrays }
     ensures exact { copies_values name.now ≡ false → IfOk result
-        (IsCommand name.now (words_left rest.entry)) }
-    ensures none { copies_values name.now ≡ false → IfOk result (λ made. IfNone made
-        (named [] array_rows name.now (words_left rest.entry) ≡ None)) }
+        (λ command. option_map command_meant command
+        ≡ joined (named [] commands name.now (words_left rest.entry))) }
     ensures memory { OnErr result (HaveEscape (words_left rest.entry)) }
 {
     match arrays_in(alloc, name, rest)? {
-        Some(Some(command)) => Ok(Some(Some(Command::Arrays(command)))),
-        Some(None) => Ok(Some(None)),
+        Some(command) => Ok(Some(Command::Arrays(command))),
         None => Ok(None),
     }
 }
 
-/// The command of this name on definitions; None where the subject lacks the name.
+/// The command of this name on definitions, where no other subject has the name.
 pub(crate) fn in_definitions<'l>(
     alloc: Global,
     name: &str,
     rest: Option<&'l str>,
 ) -> Made<Command<'l>>
-    ensures exact { IfOk result (IsCommand name.now (words_left rest.entry)) }
-    ensures none { IfOk result (λ made. IfNone made
-        (named [] definition_rows name.now (words_left rest.entry) ≡ None)) }
+    requires { subject_of name.now ≡ subjects.Definitions }
+    ensures exact { IfOk result
+        (λ command. option_map command_meant command
+        ≡ joined (named [] commands name.now (words_left rest.entry))) }
     ensures memory { OnErr result (HaveEscape (words_left rest.entry)) }
 {
     match definitions_in(alloc, name, rest)? {
-        Some(Some(command)) => Ok(Some(Some(Command::Definitions(command)))),
-        Some(None) => Ok(Some(None)),
+        Some(command) => Ok(Some(Command::Definitions(command))),
         None => Ok(None),
     }
 }
 
-/// The command of this name that extends a cell; None where the subject lacks the name.
+/// The command of this name that extends a cell, where no other subject has the name.
 pub(crate) fn in_extending<'l>(
     alloc: Global,
     name: &str,
     rest: Option<&'l str>,
 ) -> Made<Command<'l>>
-    ensures exact { IfOk result (IsCommand name.now (words_left rest.entry)) }
-    ensures none { IfOk result (λ made. IfNone made
-        (named [] extending_rows name.now (words_left rest.entry) ≡ None)) }
+    requires { subject_of name.now ≡ subjects.Extending }
+    ensures exact { IfOk result
+        (λ command. option_map command_meant command
+        ≡ joined (named [] commands name.now (words_left rest.entry))) }
     ensures memory { OnErr result (HaveEscape (words_left rest.entry)) }
 {
     match extending_in(alloc, name, rest)? {
-        Some(Some(command)) => Ok(Some(Some(Command::Extending(command)))),
-        Some(None) => Ok(Some(None)),
+        Some(command) => Ok(Some(Command::Extending(command))),
         None => Ok(None),
     }
 }
 
-/// The command of this name on styles; None where the subject lacks the name.
+/// The command of this name on styles, where no other subject has the name.
 pub(crate) fn in_styles<'l>(alloc: Global, name: &str, rest: Option<&'l str>) -> Made<Command<'l>>
-    ensures exact { IfOk result (IsCommand name.now (words_left rest.entry)) }
-    ensures none { IfOk result (λ made. IfNone made
-        (named [] style_rows name.now (words_left rest.entry) ≡ None)) }
+    requires { subject_of name.now ≡ subjects.Styles }
+    ensures exact { IfOk result
+        (λ command. option_map command_meant command
+        ≡ joined (named [] commands name.now (words_left rest.entry))) }
     ensures memory { OnErr result (HaveEscape (words_left rest.entry)) }
 {
     match styles_in(alloc, name, rest)? {
-        Some(Some(command)) => Ok(Some(Some(Command::Styles(command)))),
-        Some(None) => Ok(Some(None)),
+        Some(command) => Ok(Some(Command::Styles(command))),
         None => Ok(None),
     }
 }
 
-/// The command of this name on rows and columns; None where the subject lacks the name.
+/// The command of this name on rows and columns, where no other subject has the name.
 pub(crate) fn in_layout<'l>(alloc: Global, name: &str, rest: Option<&'l str>) -> Made<Command<'l>>
-    ensures exact { IfOk result (IsCommand name.now (words_left rest.entry)) }
-    ensures none { IfOk result (λ made. IfNone made
-        (named [] layout_rows name.now (words_left rest.entry) ≡ None)) }
+    requires { subject_of name.now ≡ subjects.Layout }
+    ensures exact { IfOk result
+        (λ command. option_map command_meant command
+        ≡ joined (named [] commands name.now (words_left rest.entry))) }
     ensures memory { OnErr result (HaveEscape (words_left rest.entry)) }
 {
     match layout_in(alloc, name, rest)? {
-        Some(Some(command)) => Ok(Some(Some(Command::Layout(command)))),
-        Some(None) => Ok(Some(None)),
+        Some(command) => Ok(Some(Command::Layout(command))),
         None => Ok(None),
     }
 }
 
-/// The command of this name on sheets; None where the subject lacks the name.
+/// The command of this name on sheets, where no other subject has the name.
 pub(crate) fn in_sheets<'l>(alloc: Global, name: &str, rest: Option<&'l str>) -> Made<Command<'l>>
-    ensures exact { IfOk result (IsCommand name.now (words_left rest.entry)) }
-    ensures none { IfOk result (λ made. IfNone made
-        (named [] sheet_rows name.now (words_left rest.entry) ≡ None)) }
+    requires { subject_of name.now ≡ subjects.Sheets }
+    ensures exact { IfOk result
+        (λ command. option_map command_meant command
+        ≡ joined (named [] commands name.now (words_left rest.entry))) }
     ensures memory { OnErr result (HaveEscape (words_left rest.entry)) }
 {
     match sheets_in(alloc, name, rest)? {
-        Some(Some(command)) => Ok(Some(Some(Command::Sheets(command)))),
-        Some(None) => Ok(Some(None)),
+        Some(command) => Ok(Some(Command::Sheets(command))),
         None => Ok(None),
     }
 }
 
-/// The command of this name on tabs or the theme; None where the subject lacks the name.
+/// The command of this name on tabs or the theme, where no other subject has the name.
 pub(crate) fn in_tabs<'l>(alloc: Global, name: &str, rest: Option<&'l str>) -> Made<Command<'l>>
-    ensures exact { IfOk result (IsCommand name.now (words_left rest.entry)) }
-    ensures none { IfOk result (λ made. IfNone made
-        (named [] tab_rows name.now (words_left rest.entry) ≡ None)) }
+    requires { subject_of name.now ≡ subjects.Tabs }
+    ensures exact { IfOk result
+        (λ command. option_map command_meant command
+        ≡ joined (named [] commands name.now (words_left rest.entry))) }
     ensures memory { OnErr result (HaveEscape (words_left rest.entry)) }
 {
     match tabs_in(alloc, name, rest)? {
-        Some(Some(command)) => Ok(Some(Some(Command::Tabs(command)))),
-        Some(None) => Ok(Some(None)),
+        Some(command) => Ok(Some(Command::Tabs(command))),
         None => Ok(None),
     }
 }
 
-/// The command of this name on the notation; None where the subject lacks the name.
+/// The command of this name on the notation, where no other subject has the name.
 pub(crate) fn in_notation<'l>(alloc: Global, name: &str, rest: Option<&'l str>) -> Made<Command<'l>>
-    ensures exact { IfOk result (IsCommand name.now (words_left rest.entry)) }
-    ensures none { IfOk result (λ made. IfNone made
-        (named [] notation_rows name.now (words_left rest.entry) ≡ None)) }
+    requires { subject_of name.now ≡ subjects.Notation }
+    ensures exact { IfOk result
+        (λ command. option_map command_meant command
+        ≡ joined (named [] commands name.now (words_left rest.entry))) }
     ensures memory { OnErr result (HaveEscape (words_left rest.entry)) }
 {
     match notation_in(alloc, name, rest)? {
-        Some(Some(command)) => Ok(Some(Some(Command::Notation(command)))),
-        Some(None) => Ok(Some(None)),
+        Some(command) => Ok(Some(Command::Notation(command))),
         None => Ok(None),
     }
 }

@@ -1,5 +1,5 @@
 ghost use Rattle.std.specs.Prelude.{◌≡◌, [], IfOk, OnErr, option_map};
-ghost use Rattle.ic_machine.specs.Row.{named};
+ghost use Rattle.ic_machine.specs.Row.{joined, named};
 ghost use Rattle.ic_machine.specs.subjects.Writing.{writing_rows};
 ghost use Rattle.ic_words.specs.Words.{HaveEscape, words_left};
 ghost use Rattle.ic_words.specs.subjects.Writing.{writing_meant};
@@ -47,63 +47,59 @@ pub enum Writing<'l> {
 
 /// The command of this name that writes a cell, by the words that are left.
 pub(crate) fn writing_in<'l>(alloc: Global, name: &str, rest: Option<&'l str>) -> Made<Writing<'l>>
-    ensures exact { IfOk result (λ made. option_map (option_map writing_meant) made
-        ≡ named [] writing_rows name.now (words_left rest.entry)) }
+    ensures exact { IfOk result (λ made. option_map writing_meant made
+        ≡ joined (named [] writing_rows name.now (words_left rest.entry))) }
     ensures memory { OnErr result (HaveEscape (words_left rest.entry)) }
 {
     match name {
         "set_user_input" => match Words::of(alloc, rest)? {
-            Some((sheet, (row, (column, (text, ()))))) => Ok(Some(Some(Writing::SetUserInput {
+            Some((sheet, (row, (column, (text, ()))))) => Ok(Some(Writing::SetUserInput {
                 sheet,
                 row,
                 column,
                 text,
-            }))),
-            None => Ok(Some(None)),
+            })),
+            None => Ok(None),
         },
         "update_cell_with_text" => match Words::of(alloc, rest)? {
-            Some((sheet, (row, (column, (text, ()))))) => Ok(Some(Some(
-                Writing::UpdateCellWithText {
-                    sheet,
-                    row,
-                    column,
-                    text,
-                },
-            ))),
-            None => Ok(Some(None)),
+            Some((sheet, (row, (column, (text, ()))))) => Ok(Some(Writing::UpdateCellWithText {
+                sheet,
+                row,
+                column,
+                text,
+            })),
+            None => Ok(None),
         },
         "update_cell_with_formula" => match Words::of(alloc, rest)? {
-            Some((sheet, (row, (column, (text, ()))))) => Ok(Some(Some(
+            Some((sheet, (row, (column, (text, ()))))) => Ok(Some(
                 Writing::UpdateCellWithFormula {
                     sheet,
                     row,
                     column,
                     text,
                 },
-            ))),
-            None => Ok(Some(None)),
+            )),
+            None => Ok(None),
         },
         "update_cell_with_bool" => match Words::of(alloc, rest)? {
-            Some((sheet, (row, (column, (truth, ()))))) => Ok(Some(Some(
-                Writing::UpdateCellWithBool {
-                    sheet,
-                    row,
-                    column,
-                    truth,
-                },
-            ))),
-            None => Ok(Some(None)),
+            Some((sheet, (row, (column, (truth, ()))))) => Ok(Some(Writing::UpdateCellWithBool {
+                sheet,
+                row,
+                column,
+                truth,
+            })),
+            None => Ok(None),
         },
         "update_cell_with_number" => match Words::of(alloc, rest)? {
-            Some((sheet, (row, (column, (amount, ()))))) => Ok(Some(Some(
+            Some((sheet, (row, (column, (amount, ()))))) => Ok(Some(
                 Writing::UpdateCellWithNumber {
                     sheet,
                     row,
                     column,
                     amount,
                 },
-            ))),
-            None => Ok(Some(None)),
+            )),
+            None => Ok(None),
         },
         _ => Ok(None),
     }

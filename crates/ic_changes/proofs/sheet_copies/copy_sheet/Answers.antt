@@ -1,7 +1,6 @@
 use Rattle.std.proofs.Common.{◌+◌, ◌++◌, ap, chars, refl, subst, sym, ◌∙◌}
 use Rattle.ic_definitions.specs.Named.{definitions_scene}
 use Rattle.ic_sheets.proofs.IndexLemmas.{read_boxed}
-use Rattle.ic_sheets.proofs.InsertLemmas.{inserted_seen}
 use Rattle.ic_sheets.proofs.OwnLemmas.{same_ids, same_names}
 use Rattle.ic_sheets.proofs.SearchLemmas.{ids, names}
 use Rattle.ic_sheets.specs.declared.sheet.Sheet.{Sheet as HeldSheet}
@@ -14,6 +13,7 @@ use Rattle.ic_parts.specs.SheetNames.{KnowsNumbers}
 use Rattle.ic_parts.specs.declared.contents.Contents.{Contents}
 use Rattle.ic_parts.specs.declared.taken_numbers.TakenNumbers.{TakenNumbers}
 use Rattle.ic_changes.proofs.SparedBodies.{naming_bodies}
+use Rattle.ic_laws.proofs.General.{insert-map as inserted_seen}
 use Rattle.ic_changes.proofs.sheet_copies.copy_sheet.Goals as goal
 
 pub copied_definitions-requires : goal.copied_definitions-requires

@@ -3,9 +3,9 @@ use Rattle.ic_tables.specs.Tables.{HasGoodFormats, language_of}
 use Rattle.ic_laws.specs.CoreBook.{CellPlace}
 use Rattle.ic_laws.specs.Notations.{english}
 use Rattle.ic_tree.specs.Notations.{notations_of}
-use Rattle.ic_sheets.proofs.CellLemmas.{stored_pair}
 use Rattle.ic_parts.proofs.HeldLemmas.{language_is}
 use Rattle.ic_parts.proofs.InForceLemmas.{shown_by}
+use Rattle.ic_cells.proofs.MapLemmas.{stored_pair}
 use Rattle.ic_dump.proofs.english.english_at.Goals as goal
 
 pub new-requires-clause-language : goal.new-requires-clause-language

@@ -2,10 +2,10 @@ use Rattle.std.proofs.Common.{◌∷◌, ◌∙◌, ap}
 use Rattle.std.proofs.lemmas.Result.{IfOk-weaker}
 use Rattle.ic_laws.specs.Character.{equals}
 use Rattle.ic_laws.specs.CoreBook.{CellPlace}
-use Rattle.ic_sheets.proofs.CellLemmas.{stored_pair}
 use Rattle.ic_parts.specs.Book.{NotationState, whole_of}
 use Rattle.ic_parts.specs.Translated.{shown_in}
 use Rattle.ic_dump.proofs.EnglishLemmas.{written_english}
+use Rattle.ic_cells.proofs.MapLemmas.{stored_pair}
 use Rattle.ic_dump.proofs.english.english_formula.Goals as goal
 
 pub formula_text-requires : goal.formula_text-requires

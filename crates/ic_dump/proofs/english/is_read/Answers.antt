@@ -2,10 +2,10 @@ use Rattle.std.proofs.Common.{◌∙◌, ap, chars, sym}
 use Rattle.std.proofs.lemmas.Result.{IfOk-weaker}
 use Rattle.ic_laws.specs.CoreBook.{CellPlace}
 use Rattle.ic_laws.specs.Notations.{english}
-use Rattle.ic_sheets.proofs.CellLemmas.{stored_pair}
 use Rattle.ic_tree.specs.Notations.{notations_of}
 use Rattle.ic_parts.specs.Book.{NotationState, notations_in}
 use Rattle.ic_dump.proofs.ReadLemmas.{closed_read, nothing_read, plain_read}
+use Rattle.ic_cells.proofs.MapLemmas.{stored_pair}
 use Rattle.ic_dump.proofs.english.is_read.Goals as goal
 
 pub returns-then-is_nothing : goal.returns-then-is_nothing

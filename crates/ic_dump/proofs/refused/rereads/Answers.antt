@@ -4,9 +4,9 @@ use Rattle.std.specs.Str.{chars}
 use mir.Syntax.{w32}
 use mir.Val.{SFits}
 use Rattle.ic_laws.specs.CoreBook.{CellPlace}
-use Rattle.ic_sheets.proofs.CellLemmas.{stored_pair}
 use Rattle.ic_parts.specs.Book.{notations_in}
 use Rattle.ic_dump.specs.Refused.{is_read, rereads}
+use Rattle.ic_cells.proofs.MapLemmas.{stored_pair}
 use Rattle.ic_dump.proofs.refused.rereads.Goals as goal
 
 pub returns-in-Raw : goal.returns-in-Raw

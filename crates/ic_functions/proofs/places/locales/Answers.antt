@@ -1,6 +1,6 @@
 use Rattle.std.proofs.Common.{◌∙◌}
 use Rattle.std.specs.Str.{chars}
-use Rattle.ic_functions.proofs.PlaceLemmas.{five_places}
+use Rattle.ic_tables.proofs.SampleLemmas.{five_places}
 use Rattle.ic_functions.proofs.places.locales.Goals as goal
 
 pub returns : goal.returns

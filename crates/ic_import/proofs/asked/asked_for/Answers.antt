@@ -1,6 +1,6 @@
 use Rattle.std.proofs.Common.{sym, ◌∙◌}
-use Rattle.ic_run.proofs.DeskLemmas.{empty_list}
 use Rattle.ic_import.proofs.DeskLemmas.{no_words}
+use Rattle.ic_pool.proofs.PlaceLemmas.{no_items as empty_list}
 use Rattle.ic_import.proofs.asked.asked_for.Goals as goal
 
 pub returns-then-is_empty : goal.returns-then-is_empty

@@ -3,7 +3,8 @@ use Rattle.std.specs.List.{slice_split}
 use Rattle.std.proofs.lemmas.Iterator.Consumers.{map_from_collect}
 use Rattle.std.proofs.lemmas.Iterator.Splits.{YieldsList-from_str_split}
 use Rattle.std.proofs.lemmas.Str.{encodes-chars, scalars-chars}
-use Rattle.ic_lines.proofs.WordLemmas.{map-map, pieces}
+use Rattle.ic_lines.proofs.WordLemmas.{pieces}
+use Rattle.ic_laws.proofs.General.{map-map}
 use Rattle.ic_lines.proofs.words.words_of.Goals as goal
 
 pub returns : goal.returns

@@ -1,8 +1,8 @@
-use Rattle.ic_machine.proofs.ArraysStay.{arrays_stay}
-use Rattle.ic_machine.proofs.NamesStay.{definitions_stay, sheets_stay}
-use Rattle.ic_machine.proofs.StylesStay.{styles_stay}
-use Rattle.ic_machine.proofs.SubjectsStay.{extending_stays, layout_stays, notation_stays, reading_stays, tabs_are}
-use Rattle.ic_machine.proofs.WritingSteps.{writing_stays}
+use Rattle.ic_machine.proofs.valid.ArraysStay.{arrays_stay}
+use Rattle.ic_machine.proofs.valid.NamesStay.{definitions_stay, sheets_stay}
+use Rattle.ic_machine.proofs.valid.StylesStay.{styles_stay}
+use Rattle.ic_machine.proofs.valid.SubjectsStay.{extending_stays, layout_stays, notation_stays, reading_stays, tabs_are}
+use Rattle.ic_machine.proofs.valid.WritingSteps.{writing_stays}
 use Rattle.ic_machine.proofs.law.law_book_stays_valid.Goals as goal
 
 pub returns : goal.returns

@@ -1,4 +1,4 @@
-use Rattle.ic_machine.proofs.CoreLines.{back, core_is_read, core_lines_are}
+use Rattle.ic_machine.proofs.as_core.CoreLines.{back, core_is_read, core_lines_are}
 use Rattle.ic_machine.proofs.law.law_core_lines_are_core.Goals as goal
 
 pub returns : goal.returns

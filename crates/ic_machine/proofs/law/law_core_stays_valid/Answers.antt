@@ -1,4 +1,4 @@
-use Rattle.ic_machine.proofs.CoreValid.{core_stays, core_valid}
+use Rattle.ic_machine.proofs.as_core.CoreValid.{core_stays, core_valid}
 use Rattle.ic_machine.proofs.law.law_core_stays_valid.Goals as goal
 
 pub returns : goal.returns

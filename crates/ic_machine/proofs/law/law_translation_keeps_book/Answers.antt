@@ -1,4 +1,4 @@
-use Rattle.ic_machine.proofs.TranslationSame.{errors_end_bodies, translation_keeps_book}
+use Rattle.ic_machine.proofs.same.TranslationSame.{errors_end_bodies, translation_keeps_book}
 use Rattle.ic_machine.proofs.law.law_translation_keeps_book.Goals as goal
 
 pub returns-clause-keeps : goal.returns-clause-keeps

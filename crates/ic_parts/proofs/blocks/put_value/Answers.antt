@@ -3,12 +3,12 @@ use Rattle.ic_grid.specs.Block.{Place}
 use Rattle.ic_grid.specs.Calls.{IsRefusal, can_write_value}
 use Rattle.ic_grid.specs.Shape.{celled}
 use Rattle.ic_machine.specs.subjects.Arrays.{put_value_step}
-use Rattle.ic_sheets.proofs.CellLemmas.{stored_pair}
 use Rattle.ic_parts.specs.Does.{DoesGrid}
 use Rattle.ic_parts.specs.Fields.{no_fields}
 use Rattle.ic_parts.proofs.ArrayLemmas.{cells_valued, value_done, value_held, value_refused}
 use Rattle.ic_parts.proofs.CellReads.{of_error}
 use Rattle.ic_parts.proofs.GridPartLemmas.{same_held}
+use Rattle.ic_cells.proofs.MapLemmas.{stored_pair}
 use Rattle.ic_parts.proofs.blocks.put_value.Goals as goal
 
 pub returns-in_err-write_value-clause-does : goal.returns-in_err-write_value-clause-does

@@ -2,9 +2,9 @@ use Rattle.std.proofs.Common.{ap, sym, option_map, option_and_then, ◌∙◌}
 use Rattle.std.specs.FinMap as finite
 use Rattle.std.specs.Prelude.{option_copied}
 use Rattle.ic_cells.specs.Cell.{cell_formula_index}
-use Rattle.ic_sheets.proofs.CellLemmas.{stored_pair}
 use Rattle.ic_sheets.specs.Sheet.{formula_in}
 use Rattle.ic_parts.proofs.ModelLemmas.{formula_by_cell, got_formula}
+use Rattle.ic_cells.proofs.MapLemmas.{stored_pair}
 use Rattle.ic_parts.proofs.formulas.formula_at.Goals as goal
 
 pub returns-in_err-cell : goal.returns-in_err-cell

@@ -1,6 +1,6 @@
 use Rattle.std.proofs.lemmas.Result.{IfOk-weaker}
 use Rattle.std.proofs.Common.{chars}
-use Rattle.ic_machine.proofs.FormatLemmas.{formatted_is}
+use Rattle.ic_machine.proofs.again.FormatLemmas.{formatted_is}
 use Rattle.ic_parts.proofs.settings.amount_by.Goals as goal
 
 pub returns : goal.returns

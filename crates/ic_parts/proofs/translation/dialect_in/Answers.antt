@@ -3,8 +3,8 @@ use Rattle.ic_laws.specs.CoreBook.{CellPlace}
 use Rattle.ic_tables.proofs.WellFormed.{formats_of_named}
 use Rattle.ic_tables.specs.Tables.{HasGoodFormats}
 use Rattle.ic_tree.specs.Notations.{notations_of}
-use Rattle.ic_sheets.proofs.CellLemmas.{stored_pair}
 use Rattle.ic_parts.proofs.InForceLemmas.{shown_by}
+use Rattle.ic_cells.proofs.MapLemmas.{stored_pair}
 use Rattle.ic_parts.proofs.translation.dialect_in.Goals as goal
 
 pub new-requires-clause-locale : goal.new-requires-clause-locale

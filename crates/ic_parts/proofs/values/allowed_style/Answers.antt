@@ -2,8 +2,8 @@ use Rattle.std.proofs.Common.{◌≡◌, ℕ, Err, subst}
 use Rattle.ic_grid.specs.Calls.{can_write}
 use Rattle.ic_grid.specs.Shape.{celled}
 use Rattle.ic_laws.specs.CoreBook.{CellPlace}
-use Rattle.ic_sheets.proofs.CellLemmas.{stored_pair}
 use Rattle.ic_parts.proofs.GridLemmas.{cell_told}
+use Rattle.ic_cells.proofs.MapLemmas.{stored_pair}
 use Rattle.ic_parts.proofs.values.allowed_style.Goals as goal
 
 pub returns-in-Err-clause-refused : goal.returns-in-Err-clause-refused

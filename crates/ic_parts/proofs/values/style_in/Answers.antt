@@ -3,10 +3,10 @@ use Rattle.std.proofs.lemmas.Int.{to_z-of_z}
 use Rattle.ic_laws.specs.CoreBook.{CellPlace}
 use Rattle.ic_laws.specs.Position.{is_column, is_row}
 use Rattle.ic_machine.specs.Refusal.{first_refusal}
-use Rattle.ic_sheets.proofs.CellLemmas.{stored_pair}
 use Rattle.ic_parts.specs.Refused.{TellsOnly}
 use Rattle.ic_parts.specs.Written.{cell_causes}
 use Rattle.ic_parts.proofs.GridLemmas.{value_told}
+use Rattle.ic_cells.proofs.MapLemmas.{stored_pair}
 use Rattle.ic_parts.proofs.values.style_in.Goals as goal
 
 pub returns-clause-refused : goal.returns-clause-refused

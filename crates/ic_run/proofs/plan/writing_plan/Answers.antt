@@ -4,11 +4,11 @@ use Rattle.ic_laws.specs.CoreBook.{CellPlace}
 use Rattle.ic_machine.specs.Command.{OnWriting}
 use Rattle.ic_machine.specs.subjects.Writing.{SetUserInput, UpdateCellWithFormula}
 use Rattle.ic_words.specs.subjects.Writing.{writing_meant}
-use Rattle.ic_sheets.proofs.CellLemmas.{stored_pair}
 use Rattle.ic_parts.specs.Translated.{IsToldOf}
 use Rattle.ic_parts.specs.Whole.{whole_of}
 use Rattle.ic_run.specs.Translate.{IsPlan}
 use Rattle.ic_run.proofs.TurnLemmas.{told_where}
+use Rattle.ic_cells.proofs.MapLemmas.{stored_pair}
 use Rattle.ic_run.proofs.plan.writing_plan.Goals as goal
 
 pub returns-in_ok-input_to_write-in-SetUserInput : goal.returns-in_ok-input_to_write-in-SetUserInput

@@ -1,6 +1,7 @@
 use Rattle.std.proofs.Common.{Some, ◌∙◌, sym, ap}
 use Rattle.ic_run.specs.Desk.{setting_of, texts}
-use Rattle.ic_run.proofs.DeskLemmas.{empty_list, other_name, run_words}
+use Rattle.ic_run.proofs.DeskLemmas.{other_name, run_words}
+use Rattle.ic_pool.proofs.PlaceLemmas.{no_items as empty_list}
 use Rattle.ic_run.proofs.start.start_named.Goals as goal
 
 pub returns-then-is_empty : goal.returns-then-is_empty

@@ -1,5 +1,5 @@
 use Rattle.std.proofs.Common.{◌∙◌, ap, chars}
-use Rattle.ic_tables.proofs.FoldLemmas.{folding_spelled}
+use Rattle.ic_laws.proofs.binding.FoldedTexts.{folding_spelled}
 use Rattle.ic_tables.proofs.fold.fold_word.Goals as goal
 
 pub returns : goal.returns

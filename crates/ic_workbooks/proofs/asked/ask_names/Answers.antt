@@ -1,9 +1,10 @@
 use Rattle.std.proofs.Common.{◌≡◌, ◌∙◌, false, true, refl, sym}
 use Rattle.ic_laws.specs.Name.{is_sheet_name}
 use Rattle.ic_cells.specs.declared.sheet.Worksheet.{Worksheet}
-use Rattle.ic_workbooks.proofs.AskedLemmas.{all_pass, passes_all}
+use Rattle.ic_workbooks.proofs.AskedLemmas.{all_pass}
 use Rattle.ic_workbooks.proofs.asked.ask_names.Goals as goal
 use Rattle.ic_workbooks.proofs.asked.ask_names.Goals.{then-not-have_names-via-then-not-have_names, then-not-have_names-via-else-not-have_names+in_ok-has_apart_names+then-not-branch}
+use Rattle.ic_laws.proofs.parsing.SoundRows.{all_hold as passes_all}
 
 pub returns-then-not-have_names : goal.returns-then-not-have_names
 returns-then-not-have_names c =

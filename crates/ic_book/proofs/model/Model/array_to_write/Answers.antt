@@ -4,13 +4,14 @@ use Rattle.ic_laws.specs.CoreBook.{CellPlace}
 use Rattle.ic_grid.specs.Block.{block_at}
 use Rattle.ic_machine.specs.Command.{OnArrays}
 use Rattle.ic_machine.specs.subjects.Arrays.{SetUserArrayFormula}
-use Rattle.ic_sheets.proofs.CellLemmas.{stored_block, stored_pair}
+use Rattle.ic_sheets.proofs.CellLemmas.{stored_block}
 use Rattle.ic_parts.specs.Arrays.{after_equals, array_refusal}
 use Rattle.ic_parts.specs.Book.{whole_of}
 use Rattle.ic_parts.specs.Translated.{IsToldOf, formula_own}
 use Rattle.ic_changes.proofs.OwnTextLemmas.{array_gone, array_own, bodiless_gone}
 use Rattle.ic_book.proofs.model.Model.array_to_write.Goals as goal
 use Rattle.ic_book.proofs.model.Model.array_to_write.Goals.{in-Ok+in-Some, in-Ok+in-None, in-Err}
+use Rattle.ic_cells.proofs.MapLemmas.{stored_pair}
 
 pub returns : goal.returns
 returns c =

@@ -3,11 +3,11 @@ use Rattle.std.proofs.lemmas.Result.{IfOk-weaker}
 use Rattle.ic_laws.specs.Character.{equals}
 use Rattle.ic_laws.specs.CoreBook.{CellPlace}
 use Rattle.ic_laws.specs.FormulaReading.{shown_formula}
-use Rattle.ic_sheets.proofs.CellLemmas.{stored_pair}
 use Rattle.ic_sheets.specs.Sheet.{sheet_of}
 use Rattle.ic_parts.specs.Book.{IsValidBook, ModelState, core_of, notations_in}
 use Rattle.ic_parts.proofs.ShownLemmas.{cell_formatted_is, formula_lacking, style_there}
 use Rattle.ic_parts.proofs.MarkupLemmas.{formula_marked, plain_there, value_marked}
+use Rattle.ic_cells.proofs.MapLemmas.{stored_pair}
 use Rattle.ic_book.proofs.model.Model.cell_plain.Goals as goal
 
 pub formatted-requires : goal.formatted-requires

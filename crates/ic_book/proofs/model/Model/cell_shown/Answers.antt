@@ -3,10 +3,10 @@ use Rattle.std.proofs.lemmas.Result.{IfOk-weaker}
 use Rattle.ic_laws.specs.Character.{equals}
 use Rattle.ic_laws.specs.CoreBook.{CellPlace}
 use Rattle.ic_laws.specs.FormulaReading.{shown_formula}
-use Rattle.ic_sheets.proofs.CellLemmas.{stored_pair}
 use Rattle.ic_sheets.specs.Sheet.{sheet_of}
 use Rattle.ic_parts.specs.Book.{IsValidBook, ModelState, core_of, notations_in}
 use Rattle.ic_parts.proofs.ShownLemmas.{formula_lacking, formula_shown, shown_there, style_there, value_shown_is}
+use Rattle.ic_cells.proofs.MapLemmas.{stored_pair}
 use Rattle.ic_book.proofs.model.Model.cell_shown.Goals as goal
 
 pub value_shown-requires : goal.value_shown-requires

@@ -5,7 +5,6 @@ use Rattle.ic_laws.specs.Character.{equals}
 use Rattle.ic_laws.specs.CoreBook.{CellPlace, formula_at}
 use Rattle.ic_laws.specs.FormulaReading.{shown_formula}
 use Rattle.ic_machine.specs.subjects.Extending.{extend_step}
-use Rattle.ic_sheets.proofs.CellLemmas.{stored_pair}
 use Rattle.ic_sheets.specs.Sheet.{cells_of, sheet_of}
 use Rattle.ic_tables.specs.Tables.{language_of, locale_of}
 use Rattle.ic_parts.specs.Book.{IsValidBook, ModelState, core_of, notations_in}
@@ -16,6 +15,7 @@ use Rattle.ic_parts.specs.Whole.{whole_of}
 use Rattle.ic_parts.proofs.ExtendLemmas.{extended_told, extends_formula, extends_value, places_at}
 use Rattle.ic_parts.proofs.StyleLemmas.{passes_memory, passes_missing}
 use Rattle.ic_parts.proofs.WholeWritten.{language_there, locale_there}
+use Rattle.ic_cells.proofs.MapLemmas.{stored_pair}
 use Rattle.ic_book.proofs.model.Model.extend_to.Goals as goal
 
 pub returns-in_err-worksheet : goal.returns-in_err-worksheet

@@ -3,10 +3,10 @@ use Rattle.std.specs.Str.{chars}
 use Rattle.std.proofs.lemmas.Result.{IfOk-weaker}
 use Rattle.std.specs.FinMap as finite
 use Rattle.std.specs.Prelude.{option_copied}
-use Rattle.ic_sheets.proofs.CellLemmas.{stored_pair}
 use Rattle.ic_sheets.specs.Sheet.{sheet_of}
 use Rattle.ic_parts.specs.Book.{IsValidBook, ModelState}
 use Rattle.ic_parts.proofs.ShownLemmas.{cell_formatted_is, formatted_at, style_there}
+use Rattle.ic_cells.proofs.MapLemmas.{stored_pair}
 use Rattle.ic_book.proofs.model.Model.formatted_in.Goals as goal
 
 pub formatted-requires : goal.formatted-requires

@@ -3,11 +3,11 @@ use Rattle.std.specs.FinMap as finite
 use Rattle.ic_laws.specs.CoreBook.{CellPlace, formula_at}
 use Rattle.ic_laws.specs.CoreStep.{formula_of, lacks_sheet}
 use Rattle.ic_laws.specs.Refusal.{InvalidSheet}
-use Rattle.ic_sheets.proofs.CellLemmas.{stored_pair}
 use Rattle.ic_sheets.specs.Sheet.{cells_of}
 use Rattle.ic_parts.specs.Book.{ModelState, core_of}
 use Rattle.ic_book.proofs.HeldLemmas.{formula_of_is, places_of}
 use Rattle.ic_book.proofs.StandsLemmas.{none_lacks, some_stands}
+use Rattle.ic_cells.proofs.MapLemmas.{stored_pair}
 use Rattle.ic_book.proofs.model.Model.formula_at.Goals as goal
 
 pub formula_at-requires : goal.formula_at-requires

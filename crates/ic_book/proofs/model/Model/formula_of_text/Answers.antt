@@ -6,9 +6,9 @@ use Rattle.ic_laws.specs.Notations.{english_function}
 use Rattle.ic_laws.specs.Tree.{Bound}
 use Rattle.ic_laws.specs.declared.tree.Formula.{Formula}
 use Rattle.ic_laws.specs.declared.tree.Formula.TheVariants as formulas
-use Rattle.ic_sheets.proofs.CellLemmas.{stored_pair}
 use Rattle.ic_tree.specs.Typed.{as_typed}
 use Rattle.ic_parts.specs.Book.{core_of, notations_in}
+use Rattle.ic_cells.proofs.MapLemmas.{stored_pair}
 use Rattle.ic_book.proofs.model.Model.formula_of_text.Goals as goal
 
 pub returns-in_ok-settled-in-Some : goal.returns-in_ok-settled-in-Some

@@ -5,8 +5,8 @@ use Rattle.ic_parts.specs.Book.{IsValidBook, ModelState, whole_of}
 use Rattle.ic_book.proofs.InForceLemmas.{formula_is}
 use Rattle.ic_changes.proofs.OwnTextLemmas.{untyped_gone, write_formula}
 use Rattle.ic_laws.specs.CoreBook.{CellPlace}
-use Rattle.ic_sheets.proofs.CellLemmas.{stored_pair}
 use Rattle.ic_parts.specs.Translated.{formula_own}
+use Rattle.ic_cells.proofs.MapLemmas.{stored_pair}
 use Rattle.ic_book.proofs.model.Model.formula_there.Goals as goal
 
 pub returns-in-Some : goal.returns-in-Some

@@ -5,7 +5,8 @@ use Rattle.ic_cells.specs.declared.workbook.Workbook.{Workbook}
 use Rattle.ic_workbooks.specs.HandedIn.{MeetsAll, book_of}
 use Rattle.ic_workbooks.proofs.FirstLemmas.{tells_handed_in}
 use Rattle.ic_book.proofs.HandedInValid.{lacks_nothing}
-use Rattle.ic_parts.proofs.HeldLemmas.{language_is, locale_is}
+use Rattle.ic_parts.proofs.HeldLemmas.{language_is}
+use Rattle.ic_tables.proofs.WellFormed.{locale_found as locale_is}
 use Rattle.ic_book.proofs.model.Model.from_workbook.Goals as goal
 
 pub from_records-requires-clause-locale : goal.from_records-requires-clause-locale

@@ -1,10 +1,10 @@
 use Rattle.std.proofs.Common.{subst}
 use Rattle.ic_laws.specs.CoreBook.{CellPlace}
 use Rattle.ic_machine.specs.subjects.Reading.{GetCellFormula, reading_step}
-use Rattle.ic_sheets.proofs.CellLemmas.{stored_pair}
 use Rattle.ic_parts.specs.Does.{Does}
 use Rattle.ic_parts.specs.Fields.{string_field}
 use Rattle.ic_parts.proofs.DoesLemmas.{shows}
+use Rattle.ic_cells.proofs.MapLemmas.{stored_pair}
 use Rattle.ic_book.proofs.model.Model.get_cell_formula.Goals as goal
 
 pub returns : goal.returns

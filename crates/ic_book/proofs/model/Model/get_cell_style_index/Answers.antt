@@ -3,11 +3,11 @@ use Rattle.ic_grid.specs.Shape.{celled}
 use Rattle.ic_grid.specs.Style.{style_at}
 use Rattle.ic_machine.specs.Reply.{number_field}
 use Rattle.ic_machine.specs.subjects.Styles.{style_index_step}
-use Rattle.ic_sheets.proofs.CellLemmas.{stored_pair}
 use Rattle.ic_sheets.specs.Sheet.{sheet_of}
 use Rattle.ic_parts.specs.Book.{IsValidBook, ModelState}
 use Rattle.ic_parts.specs.Does.{Never}
 use Rattle.ic_parts.proofs.StyleLemmas.{number_told, passes_missing, tells_number}
+use Rattle.ic_cells.proofs.MapLemmas.{stored_pair}
 use Rattle.ic_book.proofs.model.Model.get_cell_style_index.Goals as goal
 
 pub returns-in_err-worksheet : goal.returns-in_err-worksheet

@@ -6,12 +6,12 @@ use Rattle.ic_machine.specs.Fields.{optional_style_fields}
 use Rattle.ic_machine.specs.Valid.{IsStyleNumber}
 use Rattle.ic_machine.specs.subjects.Styles.{own_style_step}
 use Rattle.ic_laws.specs.CoreBook.{CellPlace}
-use Rattle.ic_sheets.proofs.CellLemmas.{stored_pair}
 use Rattle.ic_sheets.specs.Sheet.{sheet_of}
 use Rattle.ic_parts.specs.Book.{IsValidBook, ModelState}
 use Rattle.ic_parts.specs.Does.{Wanted}
 use Rattle.ic_parts.specs.Whole.{whole_of}
 use Rattle.ic_parts.proofs.StyleLemmas.{own_below, own_told, passes_memory, passes_missing, tells_own}
+use Rattle.ic_cells.proofs.MapLemmas.{stored_pair}
 use Rattle.ic_book.proofs.model.Model.get_cell_style_or_none.Goals as goal
 
 pub returns-in_err-worksheet : goal.returns-in_err-worksheet

@@ -1,5 +1,5 @@
-use Rattle.ic_sheets.proofs.CellLemmas.{stored_pair}
 use Rattle.ic_parts.proofs.CellReads.{found_there, lacks_type, tells_type}
+use Rattle.ic_cells.proofs.MapLemmas.{stored_pair}
 use Rattle.ic_book.proofs.model.Model.get_cell_type.Goals as goal
 
 pub returns : goal.returns

@@ -4,8 +4,8 @@ use Rattle.ic_tables.specs.Tables.{language_of}
 use Rattle.ic_cells.specs.Cell.{value_of}
 use Rattle.ic_cells.specs.declared.value.CellValue.TheVariants as values
 use Rattle.ic_parts.specs.Book.{ModelState}
-use Rattle.ic_sheets.proofs.CellLemmas.{stored_pair}
 use Rattle.ic_parts.proofs.CellReads.{found_there, lacks_value, tells_value, wants_value}
+use Rattle.ic_cells.proofs.MapLemmas.{stored_pair}
 use Rattle.ic_book.proofs.model.Model.get_cell_value_by_index.Goals as goal
 
 pub returns : goal.returns

@@ -3,11 +3,11 @@ use Rattle.ic_laws.specs.CoreBook.{CellPlace}
 use Rattle.ic_machine.specs.Book as machine
 use Rattle.ic_machine.specs.Book.{Stepped}
 use Rattle.ic_machine.specs.subjects.Reading.{value_fields, value_step}
-use Rattle.ic_sheets.proofs.CellLemmas.{stored_pair}
 use Rattle.ic_parts.specs.Does.{DoesStep, Wanted}
 use Rattle.ic_parts.specs.References.{parsed_of}
 use Rattle.ic_parts.specs.Whole.{whole_of}
 use Rattle.ic_parts.proofs.ReferenceLemmas.{by_ref_found, by_ref_refused, named_place}
+use Rattle.ic_cells.proofs.MapLemmas.{stored_pair}
 use Rattle.ic_book.proofs.model.Model.get_cell_value_by_ref.Goals as goal
 
 pub returns-in-Some : goal.returns-in-Some

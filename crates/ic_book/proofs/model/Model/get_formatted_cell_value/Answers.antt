@@ -2,7 +2,6 @@ use Rattle.std.proofs.Common.{[], refl, ap, subst, ◌∙◌}
 use Rattle.ic_laws.specs.CoreBook.{CellPlace}
 use Rattle.ic_machine.specs.Reply.{text_field}
 use Rattle.ic_machine.specs.subjects.Reading.{formatted_step}
-use Rattle.ic_sheets.proofs.CellLemmas.{stored_pair}
 use Rattle.ic_sheets.specs.Sheet.{sheet_of}
 use Rattle.ic_parts.specs.Book.{IsValidBook, ModelState}
 use Rattle.ic_parts.specs.Does.{Wanted}
@@ -12,6 +11,7 @@ use Rattle.ic_parts.specs.Whole.{whole_of}
 use Rattle.ic_parts.proofs.ReadLemmas.{sheet_told}
 use Rattle.ic_parts.proofs.ShownLemmas.{formatted_told}
 use Rattle.ic_parts.proofs.StyleLemmas.{passes_memory, passes_missing}
+use Rattle.ic_cells.proofs.MapLemmas.{stored_pair}
 use Rattle.ic_book.proofs.model.Model.get_formatted_cell_value.Goals as goal
 
 pub returns-in_err-worksheet : goal.returns-in_err-worksheet

@@ -4,13 +4,13 @@ use Rattle.ic_grid.specs.Shape.{celled}
 use Rattle.ic_grid.specs.Style as grid_style
 use Rattle.ic_machine.specs.Styling.{style_fields}
 use Rattle.ic_machine.specs.subjects.Styles.{cell_style_step}
-use Rattle.ic_sheets.proofs.CellLemmas.{stored_pair}
 use Rattle.ic_sheets.specs.Sheet.{sheet_of}
 use Rattle.ic_parts.specs.Book.{IsValidBook, ModelState}
 use Rattle.ic_parts.specs.Does.{Wanted}
 use Rattle.ic_parts.specs.Whole.{whole_of}
 use Rattle.ic_parts.proofs.GridLemmas.{style_below}
 use Rattle.ic_parts.proofs.StyleLemmas.{passes_memory, passes_missing, style_told, tells_style}
+use Rattle.ic_cells.proofs.MapLemmas.{stored_pair}
 use Rattle.ic_book.proofs.model.Model.get_style_for_cell.Goals as goal
 
 pub returns-in_err-worksheet : goal.returns-in_err-worksheet

@@ -2,13 +2,13 @@ use Rattle.std.proofs.Common.{IfOk, Some, chars, subst, sym}
 use Rattle.ic_laws.specs.CoreBook.{CellPlace}
 use Rattle.ic_machine.specs.Command.{OnWriting}
 use Rattle.ic_machine.specs.subjects.Writing.{SetUserInput}
-use Rattle.ic_sheets.proofs.CellLemmas.{stored_pair}
 use Rattle.ic_parts.specs.Book.{whole_of}
 use Rattle.ic_parts.specs.Translated.{IsToldOf}
 use Rattle.ic_changes.proofs.OwnTextLemmas.{input_gone}
 use Rattle.ic_book.proofs.ValueLemmas.{refusal_there}
 use Rattle.ic_book.proofs.model.Model.input_to_write.Goals as goal
 use Rattle.ic_book.proofs.model.Model.input_to_write.Goals.{in-Ok, in-Err}
+use Rattle.ic_cells.proofs.MapLemmas.{stored_pair}
 
 pub returns : goal.returns
 returns c =

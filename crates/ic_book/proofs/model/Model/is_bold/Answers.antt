@@ -2,11 +2,11 @@ use Rattle.std.proofs.Common.{◌<◌, length, ap, sym, subst, ◌∙◌}
 use Rattle.ic_cells.specs.Style.{style_at}
 use Rattle.ic_grid.specs.Shape.{celled}
 use Rattle.ic_grid.specs.Style as grid_style
-use Rattle.ic_sheets.proofs.CellLemmas.{stored_pair}
 use Rattle.ic_sheets.specs.Sheet.{sheet_of}
 use Rattle.ic_parts.specs.Book.{IsValidBook, ModelState}
 use Rattle.ic_parts.proofs.GridLemmas.{style_below}
 use Rattle.ic_parts.proofs.StyleLemmas.{shown_number}
+use Rattle.ic_cells.proofs.MapLemmas.{stored_pair}
 use Rattle.ic_book.proofs.model.Model.is_bold.Goals as goal
 
 pub bold_at-requires : goal.bold_at-requires

@@ -1,5 +1,5 @@
-use Rattle.ic_sheets.proofs.CellLemmas.{stored_pair}
 use Rattle.ic_parts.proofs.CellReads.{found_there, lacks_empty, tells_empty}
+use Rattle.ic_cells.proofs.MapLemmas.{stored_pair}
 use Rattle.ic_book.proofs.model.Model.is_empty_cell.Goals as goal
 
 pub returns : goal.returns

@@ -1,9 +1,10 @@
 use Rattle.std.proofs.Common.{is_some, chars, sym, ap, subst}
 use Rattle.ic_definitions.proofs.NamedLemmas.{finds_empty}
 use Rattle.ic_parts.specs.Book.{IsValidBook}
-use Rattle.ic_parts.proofs.HeldLemmas.{language_is, locale_is}
+use Rattle.ic_parts.proofs.HeldLemmas.{language_is}
 use Rattle.ic_book.proofs.HeldLemmas.{start_is}
 use Rattle.ic_parts.proofs.StartLemmas.{new_book_valid}
+use Rattle.ic_tables.proofs.WellFormed.{locale_found as locale_is}
 use Rattle.ic_book.proofs.model.Model.new_empty.Goals as goal
 
 pub new-requires-clause-locale : goal.new-requires-clause-locale

@@ -1,7 +1,8 @@
 use Rattle.std.proofs.Common.{ap, chars, ◌∙◌}
 use Rattle.ic_tables.specs.Tables.{TableSet}
 use Rattle.ic_parts.specs.Book.{ModelState, NotationState}
-use Rattle.ic_parts.proofs.HeldLemmas.{language_is, locale_is}
+use Rattle.ic_parts.proofs.HeldLemmas.{language_is}
+use Rattle.ic_tables.proofs.WellFormed.{locale_found as locale_is}
 use Rattle.ic_book.proofs.model.Model.notation_named.Goals as goal
 
 pub new-requires-clause-locale : goal.new-requires-clause-locale

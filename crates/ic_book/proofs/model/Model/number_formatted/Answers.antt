@@ -3,7 +3,7 @@ use Rattle.std.proofs.lemmas.Result.{IfOk-weaker}
 use Rattle.ic_machine.specs.InForce.{formatted_in}
 use Rattle.ic_parts.specs.Book.{ModelState}
 use Rattle.ic_parts.specs.Whole.{whole_of}
-use Rattle.ic_machine.proofs.FormatLemmas.{formatted_is}
+use Rattle.ic_machine.proofs.again.FormatLemmas.{formatted_is}
 use Rattle.ic_parts.proofs.ShownLemmas.{formatted_there}
 use Rattle.ic_parts.proofs.WholeWritten.{language_there}
 use Rattle.ic_book.proofs.model.Model.number_formatted.Goals as goal

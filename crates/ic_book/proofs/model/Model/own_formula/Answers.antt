@@ -4,12 +4,12 @@ use Rattle.std.proofs.lemmas.Option.{slice_get-map}
 use Rattle.ic_laws.specs.CoreBook.{CellPlace}
 use Rattle.ic_laws.specs.FormulaReading.{cell_formula}
 use Rattle.ic_laws.specs.declared.tree.Formula.{Formula}
-use Rattle.ic_sheets.proofs.CellLemmas.{stored_pair}
 use Rattle.ic_sheets.specs.Sheet.{Sheet, sheet_of}
 use Rattle.ic_parts.specs.Book.{ModelState, core_of, notations_in}
 use Rattle.ic_parts.specs.Written.{written_formula}
 use Rattle.ic_parts.specs.declared.own_text.OwnText.{OwnText}
 use Rattle.ic_parts.specs.declared.own_text.OwnText.TheVariants as owns
+use Rattle.ic_cells.proofs.MapLemmas.{stored_pair}
 use Rattle.ic_book.proofs.model.Model.own_formula.Goals as goal
 
 pub returns : goal.returns

@@ -8,7 +8,7 @@ use Rattle.ic_parts.specs.Book.{IsValidBook, ModelState, whole_of}
 use Rattle.ic_parts.specs.Translated.{IsWrittenIn, shown_in}
 use Rattle.ic_laws.specs.Character.{equals}
 use Rattle.ic_laws.specs.CoreBook.{CellPlace}
-use Rattle.ic_sheets.proofs.CellLemmas.{stored_pair}
+use Rattle.ic_cells.proofs.MapLemmas.{stored_pair}
 use Rattle.ic_book.proofs.model.Model.own_text.Goals as goal
 
 pub returns-in-Value : goal.returns-in-Value

@@ -4,11 +4,11 @@ use Rattle.std.proofs.lemmas.Result.{IfOk-weaker}
 use Rattle.ic_laws.specs.CoreBook.{CellPlace}
 use Rattle.std.specs.FinMap as finite
 use Rattle.std.specs.Prelude.{option_copied}
-use Rattle.ic_sheets.proofs.CellLemmas.{stored_pair}
 use Rattle.ic_sheets.specs.Sheet.{sheet_of}
 use Rattle.ic_parts.specs.Book.{IsValidBook, ModelState}
 use Rattle.ic_parts.specs.Markup.{plain_shown}
 use Rattle.ic_parts.proofs.MarkupLemmas.{plain_there}
+use Rattle.ic_cells.proofs.MapLemmas.{stored_pair}
 use Rattle.ic_book.proofs.model.Model.plain_in.Goals as goal
 
 pub cell_plain-requires-clause-there : goal.cell_plain-requires-clause-there

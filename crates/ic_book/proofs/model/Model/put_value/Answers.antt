@@ -3,7 +3,6 @@ use Rattle.std.specs.List.{slice_get}
 use Rattle.ic_laws.specs.CoreBook.{CellPlace}
 use Rattle.ic_laws.specs.CoreStep.{updated_at}
 use Rattle.ic_grid.specs.Shape.{is_loose, shape_of}
-use Rattle.ic_sheets.proofs.CellLemmas.{stored_pair}
 use Rattle.ic_sheets.specs.Sheet.{TakesCell, with_cell_in}
 use Rattle.ic_sheets.specs.declared.sheet.Sheet.{Sheet as HeldSheet}
 use Rattle.ic_parts.specs.Book.{IsValidBook, ModelState, whole_of}
@@ -17,6 +16,7 @@ use Rattle.ic_parts.proofs.SharedLemmas.{taken_away, value_loose}
 use Rattle.ic_book.proofs.ValueLemmas.{is_within, style_within, takes_there, value_wants}
 use Rattle.ic_parts.proofs.NameIndexLemmas.{indexed_updated}
 use Rattle.ic_parts.specs.Names.{IsIndexed}
+use Rattle.ic_cells.proofs.MapLemmas.{stored_pair}
 use Rattle.ic_book.proofs.model.Model.put_value.Goals as goal
 
 pub new_cell-requires : goal.new_cell-requires

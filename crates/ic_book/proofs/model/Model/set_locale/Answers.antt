@@ -7,7 +7,8 @@ use Rattle.ic_parts.proofs.DoesLemmas.{puts_locale}
 use Rattle.ic_parts.specs.Change.{with_locale}
 use Rattle.ic_book.specs.Inside.{IsHeld, held, held_state}
 use Rattle.ic_parts.proofs.BookValid.{in_locale}
-use Rattle.ic_parts.proofs.HeldLemmas.{locale_accepted, locale_is, locale_unknown}
+use Rattle.ic_parts.proofs.HeldLemmas.{locale_accepted, locale_unknown}
+use Rattle.ic_tables.proofs.WellFormed.{locale_found as locale_is}
 use Rattle.ic_book.proofs.model.Model.set_locale.Goals as goal
 
 pub put_locale-requires : goal.put_locale-requires

@@ -1,10 +1,10 @@
 use Rattle.std.proofs.Common.{List, ℕ, chars, string_bytes, subst}
 use Rattle.ic_laws.specs.CoreBook.{CellPlace}
 use Rattle.ic_machine.specs.subjects.Writing.{SetUserInput, writing_step}
-use Rattle.ic_sheets.proofs.CellLemmas.{stored_pair}
 use Rattle.ic_parts.specs.Does.{DoesIn}
 use Rattle.ic_parts.specs.Fields.{no_fields}
 use Rattle.ic_parts.proofs.RetypedLemmas.{retyped_so}
+use Rattle.ic_cells.proofs.MapLemmas.{stored_pair}
 use Rattle.ic_book.proofs.model.Model.set_user_input.Goals as goal
 
 pub returns-clause-does : goal.returns-clause-does

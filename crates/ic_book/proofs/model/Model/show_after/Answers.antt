@@ -4,8 +4,8 @@ use Rattle.ic_laws.specs.Binding.{spelled}
 use Rattle.ic_laws.specs.CoreBook.{CellPlace}
 use Rattle.ic_laws.specs.FormulaReading.{shown_at, shown_formula}
 use Rattle.ic_laws.specs.Reading.{printed}
-use Rattle.ic_sheets.proofs.CellLemmas.{stored_pair}
 use Rattle.ic_parts.specs.Book.{core_of, notations_in}
+use Rattle.ic_cells.proofs.MapLemmas.{stored_pair}
 use Rattle.ic_book.proofs.model.Model.show_after.Goals as goal
 
 pub returns-in-Tree : goal.returns-in-Tree

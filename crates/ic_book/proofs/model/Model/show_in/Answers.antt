@@ -4,10 +4,10 @@ use Rattle.ic_laws.specs.Binding.{spelled}
 use Rattle.ic_laws.specs.CoreBook.{CellPlace, CoreBook, scene_of}
 use Rattle.ic_laws.specs.Reading.{printed}
 use Rattle.ic_tree.specs.Notations.{notations_of}
-use Rattle.ic_sheets.proofs.CellLemmas.{stored_pair}
 use Rattle.ic_parts.specs.Book.{whole_of}
 use Rattle.ic_parts.specs.Translated.{shown_in}
 use Rattle.ic_parts.proofs.WholeLemmas.{whole_core}
+use Rattle.ic_cells.proofs.MapLemmas.{stored_pair}
 use Rattle.ic_book.proofs.model.Model.show_in.Goals as goal
 
 pub returns-in-Tree : goal.returns-in-Tree

@@ -4,9 +4,9 @@ use Rattle.ic_laws.specs.CoreBook.{CellPlace}
 use Rattle.ic_laws.specs.FormulaReading.{shown_at}
 use Rattle.ic_tables.proofs.WellFormed.{formats_of_named}
 use Rattle.ic_parts.specs.Book.{ModelState, core_of, notations_in}
-use Rattle.ic_sheets.proofs.CellLemmas.{stored_pair}
 use Rattle.ic_book.specs.Inside.{held}
 use Rattle.ic_parts.proofs.InForceLemmas.{shown_by}
+use Rattle.ic_cells.proofs.MapLemmas.{stored_pair}
 use Rattle.ic_book.proofs.model.Model.shown.Goals as goal
 
 pub new-requires-clause-locale : goal.new-requires-clause-locale

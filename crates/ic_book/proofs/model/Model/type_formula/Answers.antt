@@ -4,7 +4,6 @@ use Rattle.ic_machine.specs.Book as machine
 use Rattle.ic_machine.specs.Book.{Stepped}
 use Rattle.ic_machine.specs.InForce.{formula_typed}
 use Rattle.ic_machine.specs.subjects.Writing.{formula_step}
-use Rattle.ic_sheets.proofs.CellLemmas.{stored_pair}
 use Rattle.ic_parts.specs.Book.{IsValidBook, ModelState, whole_of}
 use Rattle.ic_parts.specs.Does.{DoesStep, WantedIn}
 use Rattle.ic_parts.specs.Fields.{no_fields}
@@ -15,6 +14,7 @@ use Rattle.ic_book.proofs.InForceLemmas.{formula_is}
 use Rattle.ic_changes.proofs.TypedSteps.{formula_told, no_formula_told, some_formula}
 use Rattle.ic_book.proofs.ValueLemmas.{refusal_there}
 use Rattle.ic_parts.proofs.WholeWritten.{writes}
+use Rattle.ic_cells.proofs.MapLemmas.{stored_pair}
 use Rattle.ic_book.proofs.model.Model.type_formula.Goals as goal
 
 pub returns-in_err-shown-clause-does : goal.returns-in_err-shown-clause-does

@@ -3,7 +3,6 @@ use Rattle.ic_laws.specs.CoreBook.{CellPlace}
 use Rattle.ic_machine.specs.Book as machine
 use Rattle.ic_machine.specs.Book.{Stepped}
 use Rattle.ic_machine.specs.subjects.Writing.{input_step}
-use Rattle.ic_sheets.proofs.CellLemmas.{stored_pair}
 use Rattle.ic_parts.specs.Book.{whole_of}
 use Rattle.ic_parts.specs.Does.{DoesStep, WantedIn}
 use Rattle.ic_parts.specs.Fields.{no_fields}
@@ -13,6 +12,7 @@ use Rattle.ic_parts.proofs.CellReads.{of_error}
 use Rattle.ic_parts.proofs.RetypedLemmas.{retyped_so}
 use Rattle.ic_changes.proofs.TypedSteps.{input_is, input_told, input_wants}
 use Rattle.ic_book.proofs.ValueLemmas.{refusal_there}
+use Rattle.ic_cells.proofs.MapLemmas.{stored_pair}
 use Rattle.ic_book.proofs.model.Model.type_text.Goals as goal
 
 pub returns-in_err-shown-clause-does : goal.returns-in_err-shown-clause-does

@@ -1,9 +1,9 @@
 use Rattle.std.proofs.Common.{List, ℕ, chars, subst}
 use Rattle.ic_laws.specs.CoreBook.{CellPlace}
 use Rattle.ic_machine.specs.subjects.Writing.{UpdateCellWithFormula, writing_step}
-use Rattle.ic_sheets.proofs.CellLemmas.{stored_pair}
 use Rattle.ic_parts.specs.Does.{DoesIn}
 use Rattle.ic_parts.specs.Fields.{no_fields}
+use Rattle.ic_cells.proofs.MapLemmas.{stored_pair}
 use Rattle.ic_book.proofs.model.Model.update_cell_with_formula.Goals as goal
 
 pub returns-clause-does : goal.returns-clause-does

@@ -2,11 +2,11 @@ use Rattle.std.proofs.Common.{[], subst}
 use Rattle.ic_laws.specs.CoreBook.{CellPlace}
 use Rattle.ic_machine.specs.Content.{NumContent}
 use Rattle.ic_machine.specs.subjects.Writing.{number_step, unquoted, write_step}
-use Rattle.ic_sheets.proofs.CellLemmas.{stored_pair}
 use Rattle.ic_parts.specs.Does.{DoesStep, Wanted}
 use Rattle.ic_parts.specs.Fields.{no_fields}
 use Rattle.ic_parts.specs.Values.{content_written}
 use Rattle.ic_parts.specs.Whole.{whole_of}
+use Rattle.ic_cells.proofs.MapLemmas.{stored_pair}
 use Rattle.ic_book.proofs.model.Model.update_cell_with_number.Goals as goal
 
 pub returns-clause-does : goal.returns-clause-does

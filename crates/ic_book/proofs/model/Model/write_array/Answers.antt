@@ -5,7 +5,6 @@ use Rattle.ic_laws.specs.CoreBook.{CellPlace}
 use Rattle.ic_laws.specs.CoreStep.{updated_at}
 use Rattle.ic_laws.specs.FormulaReading.{cell_formula}
 use Rattle.ic_machine.specs.Refusal.{InvalidSheet}
-use Rattle.ic_sheets.proofs.CellLemmas.{stored_pair}
 use Rattle.ic_sheets.proofs.WriteLemmas.{at_err}
 use Rattle.ic_parts.specs.Arrays.{WritesArray, array_refusal, array_refusal_in}
 use Rattle.ic_parts.specs.Book.{ModelState, core_of, notations_in}
@@ -17,6 +16,7 @@ use Rattle.ic_parts.proofs.CellReads.{of_error}
 use Rattle.ic_book.proofs.HeldLemmas.{book_again, held_again}
 use Rattle.ic_changes.proofs.LookUpLemmas.{look_ups_left}
 use Rattle.ic_parts.proofs.NameIndexLemmas.{indexed_updated, indexed_seen}
+use Rattle.ic_cells.proofs.MapLemmas.{stored_pair}
 use Rattle.ic_book.proofs.model.Model.write_array.Goals as goal
 
 pub returns-in_err-id-clause-memory : goal.returns-in_err-id-clause-memory

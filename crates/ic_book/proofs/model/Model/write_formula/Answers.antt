@@ -8,7 +8,6 @@ use Rattle.ic_cells.specs.declared.style.Style.{Style}
 use Rattle.ic_machine.specs.Styling.{restyled}
 use Rattle.ic_machine.specs.subjects.Writing.{unquoted}
 use Rattle.ic_sheets.proofs.IndexLemmas.{read_boxed}
-use Rattle.ic_sheets.proofs.CellLemmas.{stored_pair}
 use Rattle.ic_sheets.specs.Sheet.{Sheet, TakesCell, formula_cell, sheet_of, with_cell_in}
 use Rattle.ic_sheets.specs.declared.sheet.Sheet.{Sheet as HeldSheet}
 use Rattle.ic_tables.specs.Tables.{TableSet}
@@ -22,6 +21,7 @@ use Rattle.ic_book.proofs.HeldLemmas.{book_again, clear_at, entry_at, held_again
 use Rattle.ic_parts.proofs.HeldLemmas.{whole_at, whole_updated}
 use Rattle.ic_changes.proofs.LookUpLemmas.{look_ups_left}
 use Rattle.ic_parts.proofs.NameIndexLemmas.{indexed_updated, indexed_seen}
+use Rattle.ic_cells.proofs.MapLemmas.{stored_pair}
 use Rattle.ic_book.proofs.model.Model.write_formula.Goals as goal
 
 pub without_quote-requires : goal.without_quote-requires

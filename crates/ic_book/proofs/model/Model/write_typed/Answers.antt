@@ -4,7 +4,6 @@ use Rattle.ic_cells.specs.declared.style.Style.{Style}
 use Rattle.ic_machine.specs.Book as machine
 use Rattle.ic_machine.specs.Book.{Stepped}
 use Rattle.ic_machine.specs.Content.{Content}
-use Rattle.ic_sheets.proofs.CellLemmas.{stored_pair}
 use Rattle.ic_parts.specs.Book.{whole_of}
 use Rattle.ic_parts.specs.Does.{DoesStep, Wanted, WantedIn}
 use Rattle.ic_parts.specs.Fields.{no_fields}
@@ -12,6 +11,7 @@ use Rattle.ic_parts.specs.Values.{Shows, put_step, style_change, typed_step, val
 use Rattle.ic_parts.specs.Written.{put_formula_step, value_refusal}
 use Rattle.ic_changes.proofs.TypedSteps.{either_look_up, formula_put, other_put, wanted_in}
 use Rattle.ic_parts.proofs.WholeWritten.{writes}
+use Rattle.ic_cells.proofs.MapLemmas.{stored_pair}
 use Rattle.ic_book.proofs.model.Model.write_typed.Goals as goal
 
 pub returns-in_default-clause-does : goal.returns-in_default-clause-does

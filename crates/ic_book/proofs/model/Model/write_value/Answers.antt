@@ -1,6 +1,5 @@
 use Rattle.std.proofs.Common.{◌∙◌, Some, ap, subst}
 use Rattle.ic_laws.specs.CoreBook.{CellPlace}
-use Rattle.ic_sheets.proofs.CellLemmas.{stored_pair}
 use Rattle.ic_parts.specs.Book.{whole_of}
 use Rattle.ic_parts.specs.Does.{DoesStep, Wanted}
 use Rattle.ic_parts.specs.Fields.{no_fields}
@@ -8,6 +7,7 @@ use Rattle.ic_parts.specs.Refused.{refusal_of}
 use Rattle.ic_parts.specs.Values.{put_step, style_change, value_content}
 use Rattle.ic_parts.proofs.CellReads.{of_error}
 use Rattle.ic_book.proofs.ValueLemmas.{refusal_there, value_refused}
+use Rattle.ic_cells.proofs.MapLemmas.{stored_pair}
 use Rattle.ic_book.proofs.model.Model.write_value.Goals as goal
 
 pub returns-in_err-shown-clause-does : goal.returns-in_err-shown-clause-does

@@ -1,9 +1,10 @@
 use Rattle.std.proofs.Common.{◌∙◌, subst}
 use Rattle.std.proofs.lemmas.Result.{on_err_weaker, on_ok_weaker}
-use Rattle.ic_sheets.proofs.CellLemmas.{still_takes, still_there, still_whole, stored_pair, written_over, written_whole}
+use Rattle.ic_sheets.proofs.CellLemmas.{still_takes, still_there, still_whole, written_over, written_whole}
 use Rattle.ic_sheets.proofs.WriteLemmas.{at_err, looked_up_whole, not_looked_up}
 use Rattle.ic_sheets.specs.Sheet.{WritesNew}
 use Rattle.ic_sheets.specs.declared.sheet.Entered.{Entered}
+use Rattle.ic_cells.proofs.MapLemmas.{stored_pair}
 use Rattle.ic_sheets.proofs.sheet.Sheet.write.Goals as goal
 
 pub write_over-requires-clause-whole : goal.write_over-requires-clause-whole

@@ -1,5 +1,6 @@
 use Rattle.std.proofs.lemmas.Result.{IfOk-weaker}
-use Rattle.ic_sheets.proofs.CellLemmas.{put_written, stored_pair}
+use Rattle.ic_sheets.proofs.CellLemmas.{put_written}
+use Rattle.ic_cells.proofs.MapLemmas.{stored_pair}
 use Rattle.ic_sheets.proofs.sheet.Sheet.write_new.Goals as goal
 
 pub returns-clause-ok : goal.returns-clause-ok

@@ -1,13 +1,13 @@
 use Rattle.std.proofs.Common.{◌≡◌, ◌<◌, ◌∙◌, ℕ, ap, sym, subst, cond, nat_eq, length, vec_capacity, arith}
 use Rattle.std.proofs.lemmas.Result.{on_err_weaker, on_ok_weaker}
 use Rattle.ic_sheets.proofs.IndexLemmas.{read_boxed}
-use Rattle.ic_sheets.proofs.CellLemmas.{stored_pair}
 use Rattle.ic_sheets.proofs.DanglingLemmas.{dangling_over, length_over, listed_at, room_at}
 use Rattle.ic_sheets.proofs.MentionerLemmas.{begins_written, known_written}
 use Rattle.ic_sheets.proofs.PlaceLemmas.{placed_same}
 use Rattle.ic_sheets.specs.Index.{is_listed}
 use Rattle.ic_sheets.specs.declared.sheet.Sheet.{Sheet}
 use Rattle.ic_sheets.proofs.WriteLemmas.{kept_over, like_written, seen_over, looked_up_at, sheets_as_before, takes_at, writes_at}
+use Rattle.ic_cells.proofs.MapLemmas.{stored_pair}
 use Rattle.ic_sheets.proofs.sheets.Sheets.write.Goals as goal
 
 pub invariant_of-self : goal.invariant_of-self

@@ -1,7 +1,6 @@
 use Rattle.std.proofs.Common.{◌<◌, ◌∙◌, ap, length, of_z, refl, slice_set, subst, sym, to_z, w32, arith}
 use Rattle.ic_laws.specs.CoreBook.{CellPlace}
 use Rattle.ic_laws.specs.CoreStep.{updated_at}
-use Rattle.ic_sheets.proofs.CellLemmas.{stored_pair}
 use Rattle.ic_sheets.proofs.DanglingLemmas.{dangling_over, left_alone, length_over, listed_at}
 use Rattle.ic_sheets.proofs.IndexLemmas.{read_boxed, set_updated}
 use Rattle.ic_sheets.proofs.MentionerLemmas.{known_like}
@@ -13,6 +12,7 @@ use Rattle.ic_sheets.specs.Sheet.{with_cell_in}
 use Rattle.ic_sheets.specs.declared.sheet.Sheet.{Sheet}
 use Rattle.ic_sheets.proofs.sheets.Sheets.write_cell.Goals as goal
 use Rattle.ic_sheets.proofs.sheets.Sheets.write_cell.Goals.{in-Ok, in-Err}
+use Rattle.ic_cells.proofs.MapLemmas.{stored_pair}
 
 pub invariant_of-self : goal.invariant_of-self
 invariant_of-self c =

@@ -1,12 +1,14 @@
-use Rattle.std.proofs.Common.{Some, ap, ◌∙◌}
+use Rattle.std.proofs.Common.{ap, sym, ◌∙◌, option_map}
 use Rattle.ic_words.specs.Words.{words_left}
-use Rattle.ic_words.proofs.SubjectLemmas.{layout_first, found}
+use Rattle.ic_words.specs.declared.command.subject.Subject.TheVariants as subjects
+use Rattle.ic_words.specs.subjects.Layout.{layout_meant}
+use Rattle.ic_words.proofs.SubjectLemmas.{layout_first, of_told}
 use Rattle.ic_words.proofs.command.subject.in_layout.Goals as goal
 
-pub returns-in-Some-Some-clause-exact : goal.returns-in-Some-Some-clause-exact
-returns-in-Some-Some-clause-exact c =
-    found _ (words_left c.args.rest) layout_first _ (c.in-Some-Some.is ∙ ap Some c.in-Some-Some.field-0-is) c.in_ok-command.ensures.exact
+pub returns-in-Some-clause-exact : goal.returns-in-Some-clause-exact
+returns-in-Some-clause-exact c =
+    of_told c.args.name.now (words_left c.args.rest) subjects.Layout layout_first c.requires (λ none. none) (ap (option_map layout_meant) (sym c.in-Some.is) ∙ c.in_ok-command.ensures.exact)
 
-pub returns-in-Some-None-clause-exact : goal.returns-in-Some-None-clause-exact
-returns-in-Some-None-clause-exact c =
-    found _ (words_left c.args.rest) layout_first _ (c.in-Some-None.is ∙ ap Some c.in-Some-None.field-0-is) c.in_ok-command.ensures.exact
+pub returns-in-None-clause-exact : goal.returns-in-None-clause-exact
+returns-in-None-clause-exact c =
+    of_told c.args.name.now (words_left c.args.rest) subjects.Layout layout_first c.requires (λ none. none) (ap (option_map layout_meant) (sym c.in-None.is) ∙ c.in_ok-command.ensures.exact)

@@ -1,0 +1,3 @@
+-- Commands by their kinds.
+pub mod KindLemmas
+pub mod ReaderLemmas

@@ -1,0 +1,20 @@
+-- Books that are the same in another notation, and translated lines.
+pub mod ArraySame
+pub mod ChangedSame
+pub mod DefinitionSame
+pub mod FormulaSame
+pub mod GoneLemmas
+pub mod GridsSame
+pub mod InputSame
+pub mod LineSame
+pub mod MetadataFree
+pub mod NewSheetSame
+pub mod OthersSame
+pub mod SameLemmas
+pub mod SameSteps
+pub mod SheetsSame
+pub mod SitesSame
+pub mod TranslationSame
+pub mod UpdateSame
+pub mod WritingSame
+pub mod ZippedLemmas

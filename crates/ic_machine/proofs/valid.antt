@@ -1,0 +1,21 @@
+-- What always holds of a book holds after each step.
+pub mod ArrayStays
+pub mod ArraysStay
+pub mod BesideLemmas
+pub mod ChangedStays
+pub mod DuplicatedStays
+pub mod InsertedStays
+pub mod LineStays
+pub mod NamesStay
+pub mod NewSheetStays
+pub mod NotationStays
+pub mod RetypedLemmas
+pub mod SheetsStay
+pub mod StandingLemmas
+pub mod StylesStay
+pub mod SubjectsStay
+pub mod TypedAmounts
+pub mod UpdatedStays
+pub mod ValidLemmas
+pub mod WritingStays
+pub mod WritingSteps
