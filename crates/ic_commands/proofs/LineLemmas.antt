@@ -1,32 +1,41 @@
 -- What a line is answered with.
-use Rattle.std.proofs.Common.{◌≡◌, ℕ, List, [], Some, None, Err, refl, subst}
-use Rattle.ic_machine.specs.Command.{Command, command_in, commands}
+use Rattle.std.proofs.Common.{◌≡◌, ℕ, List, [], ◌∷◌, ◌++◌, String, Global, Option, Some, None, Result, Ok, Err, refl, string_bytes, ap, subst, sym, ◌∙◌}
+use Rattle.std.proofs.lemmas.Result.{IfOk-weaker}
+use Rattle.ic_laws.specs.Lines.{words_of}
+use Rattle.ic_laws.specs.declared.memory.OutOfMemory.{OutOfMemory}
+use Rattle.ic_machine.specs.Command.{Command, commands}
 use Rattle.ic_machine.specs.Refusal.{BadLine}
 use Rattle.ic_machine.specs.Reply.{reply_bytes, reply_text}
+use Rattle.ic_machine.specs.Row.{spelled}
 use Rattle.ic_machine.specs.Step.{command_step, english_errors}
 use Rattle.ic_words.specs.Reply.{IsLineText}
 use Rattle.ic_words.proofs.ReplyLemmas.{refusal_line}
 use Rattle.ic_parts.specs.Book.{ModelState}
 use Rattle.ic_parts.specs.Whole.{whole_of}
-use Rattle.ic_commands.specs.Answered.{AreValid, DoesLine, IsAnswered, StaysAfter}
+use Rattle.ic_commands.specs.Answered.{Answers, AreValid, DoesCommand, DoesLine, IsAnswered, RepliesTo, StaysAfter, command_of}
 
-module _ (line : List ℕ) where
-  -- a line whose command was answered
-  pub line_done : (command : Command) (old new : ModelState) (reply : List ℕ) → Some command ≡ command_in (english_errors (whole_of old.book)) commands line → IsAnswered command old new [] reply → DoesLine line old new reply
-  line_done command old new reply is a = record {
-    book = subst (λ o. whole_of new.book ≡ (command_step (whole_of old.book) o).0) is a.book;
-    reply = subst (λ o. reply ≡ reply_bytes (command_step (whole_of old.book) o).1) is a.reply;
-    is_line = subst (λ o. IsLineText (reply_text (command_step (whole_of old.book) o).1)) is a.line;
-    stays = subst (λ o. StaysAfter o old new) is a.stays;
-    valid = subst (λ o. AreValid o old.book new.book) is (a.valid_before, a.valid_after);
-  }
+-- a command that was answered
+command_done : {command : Command} {old new : ModelState} {reply : List ℕ} (made : Option Command) → Some command ≡ made → IsAnswered command old new [] reply → DoesCommand made old new reply
+command_done {command} {old} {new} {reply} made is a =
+    subst (λ o. DoesCommand o old new reply) is (record { book = a.book; reply = a.reply; is_line = a.line; stays = a.stays; valid = (a.valid_before, a.valid_after) })
 
-  -- a line that is no command
-  pub bad_done : (state : ModelState) (reply : List ℕ) → None ≡ command_in (english_errors (whole_of state.book)) commands line → reply ≡ reply_bytes (Err BadLine) → DoesLine line state state reply
-  bad_done state reply is told = record {
-    book = subst (λ o. whole_of state.book ≡ (command_step (whole_of state.book) o).0) is refl;
-    reply = subst (λ o. reply ≡ reply_bytes (command_step (whole_of state.book) o).1) is told;
-    is_line = subst (λ o. IsLineText (reply_text (command_step (whole_of state.book) o).1)) is (refusal_line BadLine);
-    stays = subst (λ o. StaysAfter o state state) is refl;
-    valid = subst (λ o. AreValid o state.book state.book) is tt;
-  }
+-- a line that is no command
+bad_done : {state : ModelState} {reply : List ℕ} (made : Option Command) → None ≡ made → reply ≡ reply_bytes (Err BadLine) → DoesCommand made state state reply
+bad_done {state} {reply} made is told = subst (λ o. DoesCommand o state state reply) is (record { book = refl; reply = told; is_line = refusal_line BadLine; stays = refl; valid = tt })
+
+module _ {name : List ℕ} {words : List (List ℕ)} {before : List ℕ} where
+  pub answered_so : {command : Command} {old new : ModelState} {result : Result (String Global) OutOfMemory} → Some command ≡ command_of old name words → before ≡ [] → Answers command old new before result → RepliesTo name words old new result
+  answered_so {command} {old} {new} {result} is none answers =
+      record {
+        ok = IfOk-weaker result _ _ (λ text a. command_done (command_of old name words) is (subst (λ b. IsAnswered command old new b (string_bytes text)) none a)) answers.ok;
+        err = answers.err;
+      }
+
+  pub bad_so : {state : ModelState} {text : String Global} → None ≡ command_of state name words → before ≡ [] → string_bytes text ≡ before ++ reply_bytes (Err BadLine) → RepliesTo name words state state (Ok text)
+  bad_so {state} is none told = record { ok = bad_done (command_of state name words) is (told ∙ ap (λ b. b ++ reply_bytes (Err BadLine)) none); err = tt }
+
+-- the line of a name and the words after it
+pub line_done : {line name : List ℕ} {words : List (List ℕ)} {old new : ModelState} {reply : List ℕ} → words_of line ≡ name ∷ words → DoesCommand (command_of old name words) old new reply → DoesLine line old new reply
+line_done {line} {name} {words} {old} {new} {reply} cut d =
+    let does = subst (λ o. DoesCommand o old new reply) (ap (spelled (english_errors (whole_of old.book)) commands) (sym cut)) d in
+    record { book = does.book; reply = does.reply; is_line = does.is_line; stays = does.stays; valid = does.valid }

@@ -5,6 +5,7 @@ use Rattle.ic_laws.specs.declared.memory.OutOfMemory.{OutOfMemory}
 use Rattle.ic_machine.specs.Book as machine
 use Rattle.ic_machine.specs.Book.{Stepped}
 use Rattle.ic_machine.specs.Command.{Command, OnNotation, command_in, commands}
+use Rattle.ic_machine.specs.Row.{joined, named}
 use Rattle.ic_machine.specs.Readers.{is_reader}
 use Rattle.ic_machine.specs.Reply.{Field, Reply, reply_bytes, reply_text}
 use Rattle.ic_machine.specs.Step.{command_step, english_errors, line_step, step}
@@ -49,7 +50,24 @@ pub record DoesLine (line : List ℕ) (old new : ModelState) (told : List ℕ) :
   pub stays : StaysAfter (command_in (english_errors (whole_of old.book)) commands line) old new
   pub valid : AreValid (command_in (english_errors (whole_of old.book)) commands line) old.book new.book
 
--- the same without the reply
+-- the command of a name and the words after it, where the English words of the error values are those of the book
+abbrev pub command_of : ModelState → List ℕ → List (List ℕ) → Option Command
+command_of state name words = joined (named (english_errors (whole_of state.book)) commands name words)
+
+-- The same of the command that a line is, or of none.
+pub record DoesCommand (command : Option Command) (old new : ModelState) (told : List ℕ) : Type 0 where
+  pub book : whole_of new.book ≡ (command_step (whole_of old.book) command).0
+  pub reply : told ≡ reply_bytes (command_step (whole_of old.book) command).1
+  pub is_line : IsLineText (reply_text (command_step (whole_of old.book) command).1)
+  pub stays : StaysAfter command old new
+  pub valid : AreValid command old.book new.book
+
+-- What a name and the words after it say is done and replied to; where there is no reply, the book is as it was.
+pub record RepliesTo (name : List ℕ) (words : List (List ℕ)) (old new : ModelState) (result : Result (String Global) OutOfMemory) : Type 0 where
+  pub ok : IfOk result (λ reply. DoesCommand (command_of old name words) old new (string_bytes reply))
+  pub err : OnErr result (new.book ≡ old.book)
+
+-- a line's step without the reply
 pub record LeavesLine (line : List ℕ) (old new : ModelState) : Type 0 where
   pub book : whole_of new.book ≡ (line_step commands (whole_of old.book) line).0
   pub stays : StaysAfter (command_in (english_errors (whole_of old.book)) commands line) old new

@@ -1,13 +1,12 @@
-ghost use Rattle.std.specs.Prelude.{◌≡◌, ◌+◌, ◌≤◌, [], IfOk, OnErr, OnOk, chars, false, string_bytes, string_capacity, string_len};
+ghost use Rattle.std.specs.Prelude.{◌≡◌, IfOk, OnErr, OnOk, chars, false, string_bytes};
 ghost use Rattle.ic_machine.specs.Command.{commands};
 ghost use Rattle.ic_machine.specs.Reply.{reply_text};
 ghost use Rattle.ic_tables.specs.Words.{error_words};
 ghost use Rattle.ic_machine.specs.Step.{english_errors, line_step};
 ghost use Rattle.ic_lines.specs.Reading.{has_line_feed};
-ghost use Rattle.ic_words.specs.Command.{command_meant};
-ghost use Rattle.ic_words.specs.Reply.{reply_room};
+ghost use Rattle.ic_words.specs.Words.{words_left};
 ghost use Rattle.ic_parts.specs.Whole.{whole_of};
-ghost use Rattle.ic_commands.specs.Answered.{Answers, DoesLine, LeavesLine};
+ghost use Rattle.ic_commands.specs.Answered.{DoesLine, LeavesLine, RepliesTo};
 
 mod arrays;
 mod definitions;
@@ -20,22 +19,22 @@ mod styles;
 mod tabs;
 mod writing;
 
-use arrays::answer_arrays;
-use definitions::answer_definitions;
-use extending::answer_extending;
-use ic_book::{BookError, Model};
+use arrays::reply_arrays;
+use definitions::reply_definitions;
+use extending::reply_extending;
+use ic_book::Model;
 use ic_laws::{OutOfMemory, Text};
 use ic_lines::Line;
 use ic_tables::Language;
-use ic_words::{Command, REPLY_ROOM, command_in, error_reply};
-use layout::answer_layout;
-use notation::answer_notation;
-use reading::answer_reading;
-use sheets::answer_sheets;
+use ic_words::{Subject, first_word, subject_of};
+use layout::reply_layout;
+use notation::reply_notation;
+use reading::reply_reading;
+use sheets::reply_sheets;
 use std::alloc::Global;
-use styles::answer_styles;
-use tabs::answer_tabs;
-use writing::answer_writing;
+use styles::reply_styles;
+use tabs::reply_tabs;
+use writing::reply_writing;
 
 /// One step of the machine: what a line does to the book, and its reply with the line feed at its end. A line that is no
 /// command, is refused or only asks leaves all that a model is, the formulas that sheets keep and their look-ups too; one
@@ -75,22 +74,32 @@ pub fn reply_to_text(
         (λ reply. DoesLine (chars line.now) model.old model.new (string_bytes reply)) }
     ensures err { OnErr result (model.new.book ≡ model.old.book) }
 {
-    let command = command_in(alloc, english_of(model), line)?;
-    let reply = emptied(last)?;
-    match command {
-        Some(command) => answer(alloc, model, command, reply),
-        None => Ok(error_reply(reply, BookError::BadLine.name())),
-    }
+    let (name, rest) = first_word(line);
+    reply_to_words(alloc, model, name, rest, last)
 }
 
-/// The text with nothing in it, and with room for a reply.
-fn emptied(mut text: String) -> Result<String, OutOfMemory>
-    ensures bytes { IfOk result (λ reply. string_bytes reply ≡ []) }
-    ensures room { IfOk result (λ reply. string_len reply + reply_room ≤ string_capacity reply) }
+/// One step of the machine for a name and the words that are left: by the one subject that may have the name.
+fn reply_to_words(
+    alloc: Global,
+    model: &mut Model<'_>,
+    name: &str,
+    rest: Option<&str>,
+    last: String,
+) -> Result<String, OutOfMemory>
+    ensures { RepliesTo (chars name.now) (words_left rest.entry) model.old model.new result }
 {
-    text.clear();
-    text.reserve(REPLY_ROOM)?;
-    Ok(text)
+    match subject_of(name) {
+        Subject::Sheets => reply_sheets(alloc, model, name, rest, last),
+        Subject::Definitions => reply_definitions(alloc, model, name, rest, last),
+        Subject::Notation => reply_notation(alloc, model, name, rest, last),
+        Subject::Writing => reply_writing(alloc, model, name, rest, last),
+        Subject::Reading => reply_reading(alloc, model, name, rest, last),
+        Subject::Extending => reply_extending(alloc, model, name, rest, last),
+        Subject::Styles => reply_styles(alloc, model, name, rest, last),
+        Subject::Layout => reply_layout(alloc, model, name, rest, last),
+        Subject::Tabs => reply_tabs(alloc, model, name, rest, last),
+        Subject::Arrays => reply_arrays(alloc, model, name, rest, last),
+    }
 }
 
 /// One step of the machine, as `reply_to`, with the reply as a line: without the line feed at its end.
@@ -110,31 +119,6 @@ pub fn english_of<'a>(model: &Model<'a>) -> &'a Language
     ensures { error_words result.now ≡ english_errors (whole_of model.now.book) }
 {
     model.tables().get_default_language()
-}
-
-/// Does a command, and puts its reply behind a text that has room for one without a field.
-fn answer(
-    alloc: Global,
-    model: &mut Model<'_>,
-    command: Command<'_>,
-    reply: String,
-) -> Result<String, OutOfMemory>
-    requires { string_len reply + reply_room ≤ string_capacity reply }
-    ensures { Answers (command_meant command.entry) model.old model.new (string_bytes reply)
-        result }
-{
-    match command {
-        Command::Sheets(command) => answer_sheets(model, command, reply),
-        Command::Definitions(command) => answer_definitions(model, command, reply),
-        Command::Notation(command) => answer_notation(model, command, reply),
-        Command::Writing(command) => answer_writing(model, command, reply),
-        Command::Reading(command) => answer_reading(model, command, reply),
-        Command::Extending(command) => answer_extending(model, command, reply),
-        Command::Styles(command) => answer_styles(alloc, model, command, reply),
-        Command::Layout(command) => answer_layout(model, command, reply),
-        Command::Tabs(command) => answer_tabs(alloc, model, command, reply),
-        Command::Arrays(command) => answer_arrays(model, command, reply),
-    }
 }
 
 /// The text as a line, which it is.

@@ -1,8 +1,8 @@
 //! What a call did, told by a reply.
-ghost use Rattle.std.specs.Prelude.{◌≡◌, ◌+◌, ◌++◌, ◌≤◌, Err, IfOk, OnErr, Some, chars, false, string_bytes, string_capacity, string_len, true};
+ghost use Rattle.std.specs.Prelude.{◌≡◌, ◌+◌, ◌++◌, ◌≤◌, [], Err, IfOk, OnErr, Some, chars, false, string_bytes, string_capacity, string_len, true};
 ghost use Rattle.ic_laws.specs.Name.{is_sheet_name};
 ghost use Rattle.ic_machine.specs.Fields.{named_sheet_fields};
-ghost use Rattle.ic_machine.specs.Refusal.{Refusal};
+ghost use Rattle.ic_machine.specs.Refusal.{BadLine, Refusal};
 ghost use Rattle.ic_machine.specs.Reply.{reply_bytes};
 ghost use Rattle.ic_words.specs.Reply.{reply_room};
 ghost use Rattle.ic_parts.specs.Refused.{refusal_of};
@@ -11,7 +11,25 @@ ghost use Rattle.ic_commands.specs.Answered.{Tells};
 
 use ic_book::BookError;
 use ic_laws::OutOfMemory;
-use ic_words::{Fields, error_reply, named_reply, ok_reply};
+use ic_words::{Fields, REPLY_ROOM, error_reply, named_reply, ok_reply};
+
+/// The text with nothing in it, and with room for a reply.
+pub(crate) fn emptied(mut text: String) -> Result<String, OutOfMemory>
+    ensures bytes { IfOk result (λ reply. string_bytes reply ≡ []) }
+    ensures room { IfOk result (λ reply. string_len reply + reply_room ≤ string_capacity reply) }
+{
+    text.clear();
+    text.reserve(REPLY_ROOM)?;
+    Ok(text)
+}
+
+/// Puts what a line that is no command is replied with behind a text.
+pub(crate) fn bad_line(reply: String) -> String
+    requires { string_len reply + reply_room ≤ string_capacity reply }
+    ensures { string_bytes result ≡ string_bytes reply ++ reply_bytes (Err BadLine) }
+{
+    error_reply(reply, BookError::BadLine.name())
+}
 
 /// Puts what a call did behind a text as a reply. There is none where memory ran out.
 pub(crate) fn told<T: Fields>(

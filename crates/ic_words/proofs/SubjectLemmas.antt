@@ -1,5 +1,5 @@
 -- The table of all commands, and the rows that each subject has in it.
-use Rattle.std.proofs.Common.{◌≡◌, ◌≢◌, ℕ, List, [], ◌∷◌, ◌++◌, map, Bool, true, false, ◌&&◌, ◌||◌, Option, Some, None, IsUtf8, bytes_eq, chars, codes, option_map, option_and_then, IfNone, refl, rules, ap, subst, sym, ◌∙◌, inl, inr}
+use Rattle.std.proofs.Common.{◌≡◌, ◌≢◌, ℕ, List, [], ◌∷◌, ◌++◌, map, Bool, true, false, ◌&&◌, ◌||◌, Option, Some, None, IsUtf8, bytes_eq, chars, codes, option_map, option_and_then, refl, rules, ap, subst, sym, ◌∙◌, inl, inr}
 use Rattle.std.specs.List.{AllByRecursion, find, list_all}
 use Rattle.std.proofs.lemmas.Bool.{and_parts, cases_Bool, false_from_ne_true}
 use Rattle.std.proofs.lemmas.Slice.Eq.{bytes_eq-Decides}
@@ -7,8 +7,8 @@ use Rattle.ic_laws.specs.Lines.{word_texts}
 use Rattle.ic_machine.specs.Command as laws
 use Rattle.ic_machine.specs.Command.{commands}
 use Rattle.ic_machine.specs.Row.{Row, joined, named, row_in}
-use Rattle.ic_machine.specs.Word.{Done, Many, OfAmount, OfBool, OfColor, OfFlag, OfIndex, OfPosition, OfScope, OfSpill, OfState, OfText, OfValue, Then, WordForm, Words, all_said, said, words_of, words_said}
-use Rattle.ic_machine.specs.subjects.Arrays.{PutFormulaValue, PutSpill, array_rows, block_said}
+use Rattle.ic_machine.specs.Word.{Done, Many, OfAmount, OfBool, OfColor, OfFlag, OfIndex, OfPosition, OfScope, OfSpill, OfState, OfText, OfValue, Then, WordForm, Words, all_said, said, words_said}
+use Rattle.ic_machine.specs.subjects.Arrays.{Arrays, array_rows}
 use Rattle.ic_machine.specs.subjects.Definitions.{definition_rows}
 use Rattle.ic_machine.specs.subjects.Extending.{extending_rows}
 use Rattle.ic_machine.specs.subjects.Layout.{layout_rows}
@@ -39,8 +39,8 @@ are_plain (Then form others) = is_plain form && are_plain others
 are_plain (Many form) = false
 
 -- each row has no value among its words, or a name of those that have
-abbrev known_rows : List (Row laws.Command) → Bool
-known_rows rows = list_all (λ (row : Row laws.Command). are_plain row.words || copies_values row.name) rows
+abbrev known_rows : {D : Type 0} → List (Row D) → Bool
+known_rows {D} rows = list_all (λ (row : Row D). are_plain row.words || copies_values row.name) rows
 
 module _ (english : List (List ℕ)) where
   said_same : (form : WordForm) (text : List ℕ) → is_plain form ≡ true → said english form text ≡ said [] form text
@@ -72,7 +72,7 @@ module _ (english : List (List ℕ)) where
   plain_by_name true has name e h other = refl
   plain_by_name false has name e h other = sym other ∙ ap copies_values (sym ((bytes_eq-Decides has name).0 e)) ∙ h
 
-  named_same : (rows : List (Row laws.Command)) (name : List ℕ) (words : List (List ℕ)) → known_rows rows ≡ true → copies_values name ≡ false → named [] rows name words ≡ named english rows name words
+  named_same : {D : Type 0} (rows : List (Row D)) (name : List ℕ) (words : List (List ℕ)) → known_rows rows ≡ true → copies_values name ≡ false → named [] rows name words ≡ named english rows name words
   named_same [] name words h other = refl
   named_same (row ∷ rows) name words h other =
       let p = and_parts (are_plain row.words || copies_values row.name) (known_rows rows) h in
@@ -137,25 +137,23 @@ not_values name h k =
       false_from_ne_true (bytes_eq (codes "put_spill") name) (λ e. k (sym ((bytes_eq-Decides (codes "put_spill") name).0 e))),
     ) refl
 
+-- the subject alone whose commands may have values for words
+pub plain_told : (name : List ℕ) → subject_of name ≢ subjects.Arrays → copies_values name ≡ false
+plain_told name other =
+    not_values name (λ is. other (ap subject_of is)) (λ is. other (ap subject_of is))
+
 pub other_than : (name values : List ℕ) → copies_values values ≡ true → copies_values name ≡ false → name ≢ values
 other_than name values h other is = let no : false ≡ true = sym other ∙ ap copies_values is ∙ h in cc
 
-module _ (english : List (List ℕ)) (words : List (List ℕ)) where
-  value_row : option_map laws.OnArrays (value_put_said english words) ≡ joined (named english commands (codes "put_formula_value") words)
-  unfolding commands
-  value_row = sym (map_map (λ w. PutFormulaValue w.0 (w.1.0, w.1.1.0) w.1.1.1.0) laws.OnArrays (words_said english (words_of (OfIndex ∷ OfPosition ∷ OfPosition ∷ OfValue ∷ [])) words))
+module _ (english : List (List ℕ)) (words : List (List ℕ)) (name : List ℕ) where
+  pub value_named : name ≡ codes "put_formula_value" → value_put_said english words ≡ joined (named english array_rows name words)
+  value_named is = ap (λ n. joined (named english array_rows n words)) (sym is)
 
-  spill_row : option_map laws.OnArrays (spill_put_said english words) ≡ joined (named english commands (codes "put_spill") words)
-  unfolding commands
-  spill_row =
-      sym (map_map (λ w. PutSpill w.0 (block_said w.1.0 w.1.1.0 w.1.1.1.0 w.1.1.1.1.0) w.1.1.1.1.1) laws.OnArrays
-      (words_said english (Then OfIndex (Then OfPosition (Then OfPosition (Then OfPosition (Then OfPosition (Many OfSpill)))))) words))
+  pub spill_named : name ≡ codes "put_spill" → spill_put_said english words ≡ joined (named english array_rows name words)
+  spill_named is = ap (λ n. joined (named english array_rows n words)) (sym is)
 
-  pub value_named : (name : List ℕ) → IsUtf8 name → name ≡ codes "put_formula_value" → option_map laws.OnArrays (value_put_said english words) ≡ joined (named english commands (chars name) words)
-  value_named name u is = value_row ∙ ap (λ n. joined (named english commands n words)) (sym is) ∙ sym (ap joined (found_same_named english name words u))
-
-  pub spill_named : (name : List ℕ) → IsUtf8 name → name ≡ codes "put_spill" → option_map laws.OnArrays (spill_put_said english words) ≡ joined (named english commands (chars name) words)
-  spill_named name u is = spill_row ∙ ap (λ n. joined (named english commands n words)) (sym is) ∙ sym (ap joined (found_same_named english name words u))
+  pub plain_named : copies_values name ≡ false → named [] array_rows name words ≡ named english array_rows name words
+  plain_named other = named_same english array_rows name words refl other
 
 -- The command of the one subject that may have the name ----
 
@@ -245,21 +243,21 @@ arrays_told : AreTold subjects.Arrays array_rows
 arrays_told = record { each = search rules }
 
 -- a subject that lacks the name
-record Lacks {D : Type 0} (rows : List (Row D)) (name : List ℕ) (words : List (List ℕ)) : Type 0 where
-  none : named [] rows name words ≡ None
+record Lacks {D : Type 0} (english : List (List ℕ)) (rows : List (Row D)) (name : List ℕ) (words : List (List ℕ)) : Type 0 where
+  none : named english rows name words ≡ None
 
-module _ (name : List ℕ) (words : List (List ℕ)) where
+module _ (english : List (List ℕ)) (name : List ℕ) (words : List (List ℕ)) where
   by_row : {D : Type 0} (subject : D → laws.Command) (row : Row D) → IsFirst subject row → bytes_eq row.name name ≡ true
-      → named [] commands name words ≡ Some (option_map subject (option_map row.command (words_said [] row.words words)))
+      → named english commands name words ≡ Some (option_map subject (option_map row.command (words_said english row.words words)))
   by_row subject row first is =
       let same = sym ((bytes_eq-Decides row.name name).0 is) in
       let at : find (λ (other : Row laws.Command). bytes_eq other.name name) commands ≡ Some (row_in subject row)
       = ap (λ n. find (λ (other : Row laws.Command). bytes_eq other.name n) commands) same ∙ first in
-      ap (option_map (λ (other : Row laws.Command). option_map other.command (words_said [] other.words words))) at
-      ∙ ap Some (map_map row.command subject (words_said [] row.words words))
+      ap (option_map (λ (other : Row laws.Command). option_map other.command (words_said english other.words words))) at
+      ∙ ap Some (map_map row.command subject (words_said english row.words words))
 
   by_rows : {D : Type 0} (subject : D → laws.Command) (rows : List (Row D)) → AllByRecursion (IsFirst subject) rows → (said : Option D)
-      → named [] rows name words ≡ Some said → named [] commands name words ≡ Some (option_map subject said)
+      → named english rows name words ≡ Some said → named english commands name words ≡ Some (option_map subject said)
   by_rows subject [] first said = λ is. cc
   by_rows subject (row ∷ rows) first said =
       elim (cases_Bool (bytes_eq row.name name)) [
@@ -267,24 +265,24 @@ module _ (name : List ℕ) (words : List (List ℕ)) where
         | inr e ↦ rw e (by_rows subject rows first.1 said)
       ]
 
-  beside : {D : Type 0} (subject : D → laws.Command) (rows : List (Row D)) (later : List (Row laws.Command)) → named [] rows name words ≡ None
-      → named [] later name words ≡ None → named [] (map (row_in subject) rows ++ later) name words ≡ None
+  beside : {D : Type 0} (subject : D → laws.Command) (rows : List (Row D)) (later : List (Row laws.Command)) → named english rows name words ≡ None
+      → named english later name words ≡ None → named english (map (row_in subject) rows ++ later) name words ≡ None
   beside subject [] later = λ lacking none. none
   beside subject (row ∷ rows) later =
       elim (cases_Bool (bytes_eq row.name name)) [ inl e ↦ rw e (λ lacking none. cc) | inr e ↦ rw e (beside subject rows later) ]
 
   -- where each subject lacks the name, the whole table does
-  none_named : Lacks sheet_rows name words
-      → Lacks definition_rows name words
-      → Lacks notation_rows name words
-      → Lacks writing_rows name words
-      → Lacks reading_rows name words
-      → Lacks extending_rows name words
-      → Lacks style_rows name words
-      → Lacks layout_rows name words
-      → Lacks tab_rows name words
-      → Lacks array_rows name words
-      → None ≡ joined (named [] commands name words)
+  none_named : Lacks english sheet_rows name words
+      → Lacks english definition_rows name words
+      → Lacks english notation_rows name words
+      → Lacks english writing_rows name words
+      → Lacks english reading_rows name words
+      → Lacks english extending_rows name words
+      → Lacks english style_rows name words
+      → Lacks english layout_rows name words
+      → Lacks english tab_rows name words
+      → Lacks english array_rows name words
+      → None ≡ joined (named english commands name words)
   unfolding commands
   none_named sheets definitions notation writing reading extending styles layout tabs arrays =
       sym (ap joined (
@@ -300,7 +298,7 @@ module _ (name : List ℕ) (words : List (List ℕ)) where
       (beside laws.OnArrays array_rows [] arrays.none refl)))))))))))
 
   told_of : {D : Type 0} (subject : Subject) (rows : List (Row D)) → AllByRecursion (λ (row : Row D). subject_of row.name ≡ subject) rows → (said : Option D)
-      → named [] rows name words ≡ Some said → subject_of name ≡ subject
+      → named english rows name words ≡ Some said → subject_of name ≡ subject
   told_of subject [] all said = λ is. cc
   told_of subject (row ∷ rows) all said =
       elim (cases_Bool (bytes_eq row.name name)) [
@@ -309,29 +307,29 @@ module _ (name : List ℕ) (words : List (List ℕ)) where
       ]
 
   -- a subject has the name only if the name tells it
-  lacks_unless : {D : Type 0} {subject : Subject} {rows : List (Row D)} → AreTold subject rows → (subject_of name ≡ subject → named [] rows name words ≡ None)
-      → Lacks rows name words
-  lacks_unless {D} {subject} {rows} told lacking = record { none = by_said (named [] rows name words) refl }
+  lacks_unless : {D : Type 0} {subject : Subject} {rows : List (Row D)} → AreTold subject rows → (subject_of name ≡ subject → named english rows name words ≡ None)
+      → Lacks english rows name words
+  lacks_unless {D} {subject} {rows} told lacking = record { none = by_said (named english rows name words) refl }
     where
-      by_said : (o : Option (Option D)) → named [] rows name words ≡ o → named [] rows name words ≡ None
+      by_said : (o : Option (Option D)) → named english rows name words ≡ o → named english rows name words ≡ None
       by_said None is = is
       by_said (Some said) is = lacking (told_of subject rows told.each said is)
 
   -- the subject that is told lacks the name
   abbrev pub LacksIt : Subject → Type 0
-  LacksIt subjects.Sheets = named [] sheet_rows name words ≡ None
-  LacksIt subjects.Definitions = named [] definition_rows name words ≡ None
-  LacksIt subjects.Notation = named [] notation_rows name words ≡ None
-  LacksIt subjects.Writing = named [] writing_rows name words ≡ None
-  LacksIt subjects.Reading = named [] reading_rows name words ≡ None
-  LacksIt subjects.Extending = named [] extending_rows name words ≡ None
-  LacksIt subjects.Styles = named [] style_rows name words ≡ None
-  LacksIt subjects.Layout = named [] layout_rows name words ≡ None
-  LacksIt subjects.Tabs = named [] tab_rows name words ≡ None
-  LacksIt subjects.Arrays = named [] array_rows name words ≡ None
+  LacksIt subjects.Sheets = named english sheet_rows name words ≡ None
+  LacksIt subjects.Definitions = named english definition_rows name words ≡ None
+  LacksIt subjects.Notation = named english notation_rows name words ≡ None
+  LacksIt subjects.Writing = named english writing_rows name words ≡ None
+  LacksIt subjects.Reading = named english reading_rows name words ≡ None
+  LacksIt subjects.Extending = named english extending_rows name words ≡ None
+  LacksIt subjects.Styles = named english style_rows name words ≡ None
+  LacksIt subjects.Layout = named english layout_rows name words ≡ None
+  LacksIt subjects.Tabs = named english tab_rows name words ≡ None
+  LacksIt subjects.Arrays = named english array_rows name words ≡ None
 
   -- then no subject has it
-  none_has : (subject : Subject) → subject_of name ≡ subject → LacksIt subject → None ≡ joined (named [] commands name words)
+  none_has : (subject : Subject) → subject_of name ≡ subject → LacksIt subject → None ≡ joined (named english commands name words)
   none_has subject told lacking =
       none_named
       (lacks_unless sheets_told (λ is. subst LacksIt (sym told ∙ is) lacking))
@@ -347,10 +345,21 @@ module _ (name : List ℕ) (words : List (List ℕ)) where
 
   -- the command of the subject that is told is that of the whole table
   pub of_told : (told : Subject) {D : Type 0} {subject : D → laws.Command} {rows : List (Row D)} → AreFirst subject rows → subject_of name ≡ told
-      → (named [] rows name words ≡ None → LacksIt told) → {made : Option D} → made ≡ joined (named [] rows name words)
-      → option_map subject made ≡ joined (named [] commands name words)
-  of_told told {D} {subject} {rows} first is lacks made_is = ap (option_map subject) made_is ∙ by_said (named [] rows name words) refl
+      → (named english rows name words ≡ None → LacksIt told) → {made : Option D} → made ≡ joined (named english rows name words)
+      → option_map subject made ≡ joined (named english commands name words)
+  of_told told {D} {subject} {rows} first is lacks made_is = ap (option_map subject) made_is ∙ by_said (named english rows name words) refl
     where
-      by_said : (o : Option (Option D)) → named [] rows name words ≡ o → option_map subject (joined o) ≡ joined (named [] commands name words)
+      by_said : (o : Option (Option D)) → named english rows name words ≡ o → option_map subject (joined o) ≡ joined (named english commands name words)
       by_said None e = none_has told is (lacks e)
       by_said (Some said) e = sym (ap joined (by_rows subject rows first.each said e))
+
+-- where the subject that is told takes no values for words, whatever the English words are
+pub of_plain : (english : List (List ℕ)) (name : List ℕ) (words : List (List ℕ)) (told : Subject) {D : Type 0} {subject : D → laws.Command} {rows : List (Row D)} → IsUtf8 name → AreFirst subject rows
+    → subject_of name ≡ told → told ≢ subjects.Arrays → (named [] rows name words ≡ None → LacksIt [] name words told) → {made : Option D} → made ≡ joined (named [] rows name words)
+    → option_map subject made ≡ joined (named english commands (chars name) words)
+of_plain english name words told u first is plain lacks made =
+    of_told [] name words told first is lacks made ∙ ap joined (known_named english name words u (plain_told name (λ arrays. plain (sym is ∙ arrays))))
+
+pub of_arrays : (english : List (List ℕ)) (name : List ℕ) (words : List (List ℕ)) → IsUtf8 name → subject_of name ≡ subjects.Arrays → {made : Option Arrays} → made ≡ joined (named english array_rows name words)
+    → option_map laws.OnArrays made ≡ joined (named english commands (chars name) words)
+of_arrays english name words u is made = of_told english name words subjects.Arrays arrays_first is (λ none. none) made ∙ sym (ap joined (found_same_named english name words u))

@@ -1,7 +1,5 @@
 -- Commands as the code has them.
-use Rattle.std.specs.Prelude.{◌≡◌, ℕ, List, [], Option, option_map, IfSome}
 use Rattle.ic_machine.specs.Command as laws
-use Rattle.ic_machine.specs.Row.{joined, named}
 use Rattle.ic_words.specs.subjects.Arrays.{arrays_meant}
 use Rattle.ic_words.specs.subjects.Definitions.{definitions_meant}
 use Rattle.ic_words.specs.subjects.Extending.{extending_meant}
@@ -27,7 +25,3 @@ command_meant (commands.Styles command) = laws.OnStyles (styles_meant command)
 command_meant (commands.Layout command) = laws.OnLayout (layout_meant command)
 command_meant (commands.Tabs command) = laws.OnTabs (tabs_meant command)
 command_meant (commands.Arrays command) = laws.OnArrays (arrays_meant command)
-
--- a command that is made of a name and the words after it, if one is, is that of the whole table
-abbrev pub IsCommand : List ℕ → List (List ℕ) → Option (Option Command) → Type 0
-IsCommand name words made = IfSome made (λ command. option_map command_meant command ≡ joined (named [] laws.commands name words))

@@ -1,10 +1,12 @@
-ghost use Rattle.std.specs.Prelude.{◌≡◌, ◌⊎◌, [], IfOk, OnErr, chars, false, option_map, true};
+ghost use Rattle.std.specs.Prelude.{◌≡◌, ◌≢◌, ◌⊎◌, [], IfOk, OnErr, chars, option_map, true};
 ghost use Rattle.ic_laws.specs.Lines.{words_of};
 ghost use Rattle.ic_tables.specs.Words.{error_words};
 ghost use Rattle.ic_machine.specs.Command.{command_in, commands};
 ghost use Rattle.ic_machine.specs.Row.{joined, named};
 ghost use Rattle.ic_words.specs.Command.{command_meant};
+ghost use Rattle.ic_words.specs.Subject.{subject_of};
 ghost use Rattle.ic_words.specs.Words.{CopyValues, HaveEscape, copies_values, words_left};
+ghost use Rattle.ic_words.specs.declared.command.subject.Subject.TheVariants as subjects;
 
 pub mod arrays;
 pub mod definitions;
@@ -14,12 +16,12 @@ pub mod notation;
 pub mod reading;
 pub mod sheets;
 pub mod styles;
-mod subject;
+pub mod subject;
 pub mod tabs;
 pub mod writing;
 
 use crate::words::first_word;
-use arrays::{Arrays, spill_put, value_put};
+use arrays::Arrays;
 use definitions::Definitions;
 use extending::Extending;
 use ic_laws::OutOfMemory;
@@ -54,7 +56,7 @@ pub enum Command<'l> {
 }
 
 /// The command of a name and the words after it. None where there is none of the name, or the words don't fit it.
-type Made<C> = Result<Option<C>, OutOfMemory>;
+pub type Made<C> = Result<Option<C>, OutOfMemory>;
 
 /// The command that a line is, where this is the language `en`; None where it is none: another name, fewer or
 /// more words, a number that isn't one of its type, a value that is none, or a wrong escape. Memory is asked for only for a
@@ -86,21 +88,27 @@ fn command_named<'l>(
     ensures memory { OnErr result
         (HaveEscape (words_left rest.entry) ⊎ (copies_values (chars name.now) ≡ true)) }
 {
-    match name {
-        "put_formula_value" => value_put(alloc, english, rest),
-        "put_spill" => spill_put(alloc, english, rest),
-        _ => plain_command(alloc, name, rest),
+    match subject_of(name) {
+        Subject::Arrays => in_arrays(alloc, english, name, rest),
+        told => plain_command(alloc, told, name, rest),
     }
 }
 
-/// The command of this name, where its words aren't values: that of the one subject that may have the name.
-fn plain_command<'l>(alloc: Global, name: &str, rest: Option<&'l str>) -> Made<Command<'l>>
-    ensures exact { copies_values name.now ≡ false → IfOk result
+/// The command of this name, where the one subject that may have it is told and takes no values for words.
+fn plain_command<'l>(
+    alloc: Global,
+    told: Subject,
+    name: &str,
+    rest: Option<&'l str>,
+) -> Made<Command<'l>>
+    requires told { subject_of name.now ≡ told }
+    requires plain { told ≢ subjects.Arrays }
+    ensures exact { IfOk result
         (λ command. option_map command_meant command
         ≡ joined (named [] commands name.now (words_left rest.entry))) }
     ensures memory { OnErr result (HaveEscape (words_left rest.entry)) }
 {
-    match subject_of(name) {
+    match told {
         Subject::Sheets => in_sheets(alloc, name, rest),
         Subject::Definitions => in_definitions(alloc, name, rest),
         Subject::Notation => in_notation(alloc, name, rest),
@@ -110,6 +118,6 @@ fn plain_command<'l>(alloc: Global, name: &str, rest: Option<&'l str>) -> Made<C
         Subject::Styles => in_styles(alloc, name, rest),
         Subject::Layout => in_layout(alloc, name, rest),
         Subject::Tabs => in_tabs(alloc, name, rest),
-        Subject::Arrays => in_arrays(alloc, name, rest),
+        Subject::Arrays => unreachable!(),
     }
 }

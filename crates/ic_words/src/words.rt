@@ -57,7 +57,7 @@ impl<'l, A: Word<'l>, B: Words<'l>> Words<'l> for (A, B) {
 }
 
 /// The first word of a line, and what is left of the line after the tab; None where no tab stands after the word.
-pub(crate) fn first_word(line: &str) -> (&str, Option<&str>)
+pub fn first_word(line: &str) -> (&str, Option<&str>)
     ensures { words_of (chars line.now) ≡ chars result.0.now ∷ words_left result.1 }
 {
     match memchr(b'\t', line.as_bytes()) {

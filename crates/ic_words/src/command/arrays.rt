@@ -1,18 +1,15 @@
-ghost use Rattle.std.specs.Prelude.{◌≡◌, [], IfOk, OnErr, false, option_map};
+ghost use Rattle.std.specs.Prelude.{◌≡◌, ◌⊎◌, [], IfOk, OnErr, false, option_map, true};
 ghost use Rattle.ic_tables.specs.Words.{error_words};
-ghost use Rattle.ic_machine.specs.Command.{OnArrays};
 ghost use Rattle.ic_machine.specs.Row.{joined, named};
 ghost use Rattle.ic_machine.specs.subjects.Arrays.{array_rows};
-ghost use Rattle.ic_words.specs.Command.{command_meant};
 ghost use Rattle.ic_words.specs.Words.{HaveEscape, copies_values, words_left};
 ghost use Rattle.ic_words.specs.subjects.Arrays.{arrays_meant, spill_put_said, value_put_said};
 
-use crate::command::{Command, Made};
+use crate::command::Made;
 use crate::text::WordText;
 use crate::values::ValueWords;
 use crate::words::Words;
 use ic_cells::{FormulaValue, SpillValue};
-use ic_laws::OutOfMemory;
 use ic_refs::Area;
 use ic_tables::Language;
 use std::alloc::Global;
@@ -50,8 +47,28 @@ pub enum Arrays<'l> {
     },
 }
 
+/// The command on arrays, spills and clearing of this name, by the words that are left, where this is the language `en`. Memory
+/// is asked for only for a text with an escape, and for values.
+pub fn arrays_in<'l>(
+    alloc: Global,
+    english: &Language,
+    name: &str,
+    rest: Option<&'l str>,
+) -> Made<Arrays<'l>>
+    ensures exact { IfOk result (λ made. option_map arrays_meant made
+        ≡ joined (named (error_words english.now) array_rows name.now (words_left rest.entry))) }
+    ensures memory { OnErr result
+        (HaveEscape (words_left rest.entry) ⊎ (copies_values name.now ≡ true)) }
+{
+    match name {
+        "put_formula_value" => value_put(alloc, english, rest),
+        "put_spill" => spill_put(alloc, english, rest),
+        _ => plain_arrays_in(alloc, name, rest),
+    }
+}
+
 /// The command on arrays, spills and clearing of this name, by the words that are left, unless they are values.
-pub(crate) fn arrays_in<'l>(alloc: Global, name: &str, rest: Option<&'l str>) -> Made<Arrays<'l>>
+fn plain_arrays_in<'l>(alloc: Global, name: &str, rest: Option<&'l str>) -> Made<Arrays<'l>>
     ensures exact { copies_values name.now ≡ false → IfOk result
         (λ made. option_map arrays_meant made
         ≡ joined (named [] array_rows name.now (words_left rest.entry))) }
@@ -112,47 +129,35 @@ fn area(sheet: u32, row: i32, column: i32, width: i32, height: i32) -> Area
 }
 
 /// The command that gives a formula a value, by its words.
-pub(crate) fn value_put<'l>(
-    alloc: Global,
-    english: &Language,
-    rest: Option<&'l str>,
-) -> Result<Option<Command<'l>>, OutOfMemory>
-    ensures { IfOk result (λ made. option_map command_meant made
-        ≡ option_map OnArrays (value_put_said (error_words english.now) (words_left rest.entry))) }
+fn value_put<'l>(alloc: Global, english: &Language, rest: Option<&'l str>) -> Made<Arrays<'l>>
+    ensures { IfOk result (λ made. option_map arrays_meant made
+        ≡ value_put_said (error_words english.now) (words_left rest.entry)) }
 {
     match ValueWords::of(alloc, english, rest)? {
-        Some((sheet, (row, (column, value)))) => Ok(Some(Command::Arrays(
-            Arrays::PutFormulaValue {
-                sheet,
-                row,
-                column,
-                value,
-            },
-        ))),
+        Some((sheet, (row, (column, value)))) => Ok(Some(Arrays::PutFormulaValue {
+            sheet,
+            row,
+            column,
+            value,
+        })),
         None => Ok(None),
     }
 }
 
 /// The command that gives an array its values, by its words.
-pub(crate) fn spill_put<'l>(
-    alloc: Global,
-    english: &Language,
-    rest: Option<&'l str>,
-) -> Result<Option<Command<'l>>, OutOfMemory>
-    ensures { IfOk result (λ made. option_map command_meant made
-        ≡ option_map OnArrays (spill_put_said (error_words english.now) (words_left rest.entry))) }
+fn spill_put<'l>(alloc: Global, english: &Language, rest: Option<&'l str>) -> Made<Arrays<'l>>
+    ensures { IfOk result (λ made. option_map arrays_meant made
+        ≡ spill_put_said (error_words english.now) (words_left rest.entry)) }
 {
     match ValueWords::of(alloc, english, rest)? {
-        Some((sheet, (row, (column, (width, (height, values)))))) => {
-            Ok(Some(Command::Arrays(Arrays::PutSpill {
-                sheet,
-                row,
-                column,
-                width,
-                height,
-                values,
-            })))
-        }
+        Some((sheet, (row, (column, (width, (height, values)))))) => Ok(Some(Arrays::PutSpill {
+            sheet,
+            row,
+            column,
+            width,
+            height,
+            values,
+        })),
         None => Ok(None),
     }
 }

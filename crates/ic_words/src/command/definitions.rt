@@ -86,12 +86,9 @@ pub enum Definitions<'l> {
     GetDefinedNameList,
 }
 
-/// The command on definitions of this name, by the words that are left.
-pub(crate) fn definitions_in<'l>(
-    alloc: Global,
-    name: &str,
-    rest: Option<&'l str>,
-) -> Made<Definitions<'l>>
+/// The command on definitions of this name, by the words that are left. Memory is asked for only for a text with an
+/// escape.
+pub fn definitions_in<'l>(alloc: Global, name: &str, rest: Option<&'l str>) -> Made<Definitions<'l>>
     ensures exact { IfOk result (λ made. option_map definitions_meant made
         ≡ joined (named [] definition_rows name.now (words_left rest.entry))) }
     ensures memory { OnErr result (HaveEscape (words_left rest.entry)) }

@@ -31,12 +31,8 @@ pub enum Extending<'l> {
 }
 
 /// The command of this name that writes a formula out for another cell or reads the name of a cell, by the words that
-/// are left.
-pub(crate) fn extending_in<'l>(
-    alloc: Global,
-    name: &str,
-    rest: Option<&'l str>,
-) -> Made<Extending<'l>>
+/// are left. Memory is asked for only for a text with an escape.
+pub fn extending_in<'l>(alloc: Global, name: &str, rest: Option<&'l str>) -> Made<Extending<'l>>
     ensures exact { IfOk result (λ made. option_map extending_meant made
         ≡ joined (named [] extending_rows name.now (words_left rest.entry))) }
     ensures memory { OnErr result (HaveEscape (words_left rest.entry)) }

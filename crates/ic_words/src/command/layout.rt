@@ -51,7 +51,7 @@ pub enum Layout {
 }
 
 /// The command on the layout of rows and columns of this name, by the words that are left.
-pub(crate) fn layout_in(alloc: Global, name: &str, rest: Option<&str>) -> Made<Layout>
+pub fn layout_in(alloc: Global, name: &str, rest: Option<&str>) -> Made<Layout>
     ensures exact { IfOk result (λ made. option_map layout_meant made
         ≡ joined (named [] layout_rows name.now (words_left rest.entry))) }
     ensures memory { OnErr result (HaveEscape (words_left rest.entry)) }

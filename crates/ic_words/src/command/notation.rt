@@ -21,12 +21,9 @@ pub enum Notation<'l> {
     GetFmtSettings,
 }
 
-/// The command on the locale, the language and the time zone of this name, by the words that are left.
-pub(crate) fn notation_in<'l>(
-    alloc: Global,
-    name: &str,
-    rest: Option<&'l str>,
-) -> Made<Notation<'l>>
+/// The command on the locale, the language and the time zone of this name, by the words that are left. Memory is asked
+/// for only for a text with an escape.
+pub fn notation_in<'l>(alloc: Global, name: &str, rest: Option<&'l str>) -> Made<Notation<'l>>
     ensures exact { IfOk result (λ made. option_map notation_meant made
         ≡ joined (named [] notation_rows name.now (words_left rest.entry))) }
     ensures memory { OnErr result (HaveEscape (words_left rest.entry)) }

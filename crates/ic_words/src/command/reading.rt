@@ -23,8 +23,9 @@ pub enum Reading<'l> {
     GetSheetMarkup { sheet: u32 },
 }
 
-/// The command of this name that reads cells, by the words that are left.
-pub(crate) fn reading_in<'l>(alloc: Global, name: &str, rest: Option<&'l str>) -> Made<Reading<'l>>
+/// The command of this name that reads cells, by the words that are left. Memory is asked for only for a text with an
+/// escape.
+pub fn reading_in<'l>(alloc: Global, name: &str, rest: Option<&'l str>) -> Made<Reading<'l>>
     ensures exact { IfOk result (λ made. option_map reading_meant made
         ≡ joined (named [] reading_rows name.now (words_left rest.entry))) }
     ensures memory { OnErr result (HaveEscape (words_left rest.entry)) }

@@ -49,8 +49,9 @@ pub enum Sheets<'l> {
     GetWorksheetsProperties,
 }
 
-/// The command on the list of sheets of this name, by the words that are left.
-pub(crate) fn sheets_in<'l>(alloc: Global, name: &str, rest: Option<&'l str>) -> Made<Sheets<'l>>
+/// The command on the list of sheets of this name, by the words that are left. Memory is asked for only for a text with
+/// an escape.
+pub fn sheets_in<'l>(alloc: Global, name: &str, rest: Option<&'l str>) -> Made<Sheets<'l>>
     ensures exact { IfOk result (λ made. option_map sheets_meant made
         ≡ joined (named [] sheet_rows name.now (words_left rest.entry))) }
     ensures memory { OnErr result (HaveEscape (words_left rest.entry)) }

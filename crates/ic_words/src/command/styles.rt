@@ -55,8 +55,8 @@ pub enum Styles<'l> {
     },
 }
 
-/// The command on styles of this name, by the words that are left.
-pub(crate) fn styles_in<'l>(alloc: Global, name: &str, rest: Option<&'l str>) -> Made<Styles<'l>>
+/// The command on styles of this name, by the words that are left. Memory is asked for only for a text with an escape.
+pub fn styles_in<'l>(alloc: Global, name: &str, rest: Option<&'l str>) -> Made<Styles<'l>>
     ensures exact { IfOk result (λ made. option_map styles_meant made
         ≡ joined (named [] style_rows name.now (words_left rest.entry))) }
     ensures memory { OnErr result (HaveEscape (words_left rest.entry)) }

@@ -1,5 +1,6 @@
 //! The one subject that may have a name.
-ghost use Rattle.std.specs.Prelude.{◌≡◌, [], IfOk, OnErr, false, option_map};
+ghost use Rattle.std.specs.Prelude.{◌≡◌, ◌⊎◌, [], IfOk, OnErr, chars, option_map, true};
+ghost use Rattle.ic_tables.specs.Words.{error_words};
 ghost use Rattle.ic_machine.specs.Command.{commands};
 ghost use Rattle.ic_machine.specs.Row.{joined, named};
 ghost use Rattle.ic_words.specs.Command.{command_meant};
@@ -18,11 +19,12 @@ use super::styles::styles_in;
 use super::tabs::tabs_in;
 use super::writing::writing_in;
 use crate::command::{Command, Made};
+use ic_tables::Language;
 use std::alloc::Global;
 
 /// What commands are about.
 #[derive(Clone, Copy)]
-pub(crate) enum Subject {
+pub enum Subject {
     Sheets,
     Definitions,
     Notation,
@@ -35,8 +37,9 @@ pub(crate) enum Subject {
     Arrays,
 }
 
-/// The one subject that may have a name: its length and one letter tell the subjects of all commands apart.
-pub(crate) fn subject_of(name: &str) -> Subject
+/// The one subject that may have a name: its length and one letter tell the subjects of all commands apart. Of a name that no
+/// command has it tells any.
+pub fn subject_of(name: &str) -> Subject
     ensures { result ≡ subject_of name.now }
 {
     let bytes = name.as_bytes();
@@ -153,14 +156,20 @@ pub(crate) fn in_reading<'l>(alloc: Global, name: &str, rest: Option<&'l str>) -
 }
 
 /// The command of this name on arrays, spills and clearing, where no other subject has the name.
-pub(crate) fn in_arrays<'l>(alloc: Global, name: &str, rest: Option<&'l str>) -> Made<Command<'l>>
+pub(crate) fn in_arrays<'l>(
+    alloc: Global,
+    english: &Language,
+    name: &str,
+    rest: Option<&'l str>,
+) -> Made<Command<'l>>
     requires { subject_of name.now ≡ subjects.Arrays }
-    ensures exact { copies_values name.now ≡ false → IfOk result
-        (λ command. option_map command_meant command
-        ≡ joined (named [] commands name.now (words_left rest.entry))) }
-    ensures memory { OnErr result (HaveEscape (words_left rest.entry)) }
+    ensures exact { IfOk result
+        (λ command. option_map command_meant command ≡ joined
+        (named (error_words english.now) commands (chars name.now) (words_left rest.entry))) }
+    ensures memory { OnErr result
+        (HaveEscape (words_left rest.entry) ⊎ (copies_values name.now ≡ true)) }
 {
-    match arrays_in(alloc, name, rest)? {
+    match arrays_in(alloc, english, name, rest)? {
         Some(command) => Ok(Some(Command::Arrays(command))),
         None => Ok(None),
     }

@@ -46,8 +46,9 @@ pub enum Tabs<'l> {
     },
 }
 
-/// The command on tabs or the theme of this name, by the words that are left.
-pub(crate) fn tabs_in<'l>(alloc: Global, name: &str, rest: Option<&'l str>) -> Made<Tabs<'l>>
+/// The command on tabs or the theme of this name, by the words that are left. Memory is asked for only for a text with
+/// an escape.
+pub fn tabs_in<'l>(alloc: Global, name: &str, rest: Option<&'l str>) -> Made<Tabs<'l>>
     ensures exact { IfOk result (λ made. option_map tabs_meant made
         ≡ joined (named [] tab_rows name.now (words_left rest.entry))) }
     ensures memory { OnErr result (HaveEscape (words_left rest.entry)) }

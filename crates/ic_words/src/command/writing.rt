@@ -45,8 +45,9 @@ pub enum Writing<'l> {
     },
 }
 
-/// The command of this name that writes a cell, by the words that are left.
-pub(crate) fn writing_in<'l>(alloc: Global, name: &str, rest: Option<&'l str>) -> Made<Writing<'l>>
+/// The command of this name that writes a cell, by the words that are left. Memory is asked for only for a text with an
+/// escape.
+pub fn writing_in<'l>(alloc: Global, name: &str, rest: Option<&'l str>) -> Made<Writing<'l>>
     ensures exact { IfOk result (λ made. option_map writing_meant made
         ≡ joined (named [] writing_rows name.now (words_left rest.entry))) }
     ensures memory { OnErr result (HaveEscape (words_left rest.entry)) }

@@ -1,33 +1,19 @@
-use Rattle.std.proofs.Common.{ap, inl, inr, ◌∙◌}
+use Rattle.std.proofs.Common.{ap, inl, ◌∙◌}
 use Rattle.std.proofs.lemmas.Result.{IfOk-weaker, on_err_weaker}
 use Rattle.ic_tables.specs.Words.{error_words}
 use Rattle.ic_machine.specs.Row.{joined}
-use Rattle.ic_words.specs.Words.{copies_values, words_left}
-use Rattle.ic_words.proofs.SubjectLemmas.{known_named, not_values, spill_named, value_named}
+use Rattle.ic_words.specs.Words.{words_left}
+use Rattle.ic_words.proofs.SubjectLemmas.{known_named, plain_told}
 use Rattle.ic_words.proofs.ValueLemmas.{asks_by_chars}
-use Rattle.ic_words.proofs.WordsLemmas.{always}
 use Rattle.ic_words.proofs.command.command_named.Goals as goal
 
-pub returns-in-put_formula_value-clause-exact : goal.returns-in-put_formula_value-clause-exact
-returns-in-put_formula_value-clause-exact c =
-    IfOk-weaker c.value_put.result _ _ (λ command e. e ∙ value_named (error_words c.args.english.now) (words_left c.args.rest) c.args.name.now c.utf8.name c.in-put_formula_value.is) c.value_put.ensures
+pub returns-in-Arrays-clause-memory : goal.returns-in-Arrays-clause-memory
+returns-in-Arrays-clause-memory c = on_err_weaker c.in_arrays.result (asks_by_chars c.args.name.now (words_left c.args.rest) c.utf8.name) c.in_arrays.ensures.memory
 
-pub returns-in-put_formula_value-clause-memory : goal.returns-in-put_formula_value-clause-memory
-returns-in-put_formula_value-clause-memory c =
-    always _ (asks_by_chars c.args.name.now (words_left c.args.rest) c.utf8.name (inr (ap copies_values c.in-put_formula_value.is)))
-
-pub returns-in-put_spill-clause-exact : goal.returns-in-put_spill-clause-exact
-returns-in-put_spill-clause-exact c =
-    IfOk-weaker c.spill_put.result _ _ (λ command e. e ∙ spill_named (error_words c.args.english.now) (words_left c.args.rest) c.args.name.now c.utf8.name c.in-put_spill.is) c.spill_put.ensures
-
-pub returns-in-put_spill-clause-memory : goal.returns-in-put_spill-clause-memory
-returns-in-put_spill-clause-memory c =
-    always _ (asks_by_chars c.args.name.now (words_left c.args.rest) c.utf8.name (inr (ap copies_values c.in-put_spill.is)))
-
-pub returns-in_default-clause-exact : goal.returns-in_default-clause-exact
-returns-in_default-clause-exact c =
-    let other = not_values c.args.name.now c.in_default.not-put_formula_value c.in_default.not-put_spill in
-    IfOk-weaker c.plain_command.result _ _ (λ command e. e ∙ ap joined (known_named (error_words c.args.english.now) c.args.name.now (words_left c.args.rest) c.utf8.name other)) (c.plain_command.ensures.exact other)
-
-pub returns-in_default-clause-memory : goal.returns-in_default-clause-memory
-returns-in_default-clause-memory c = on_err_weaker c.plain_command.result inl c.plain_command.ensures.memory
+pub returns-in_default : goal.returns-in_default
+returns-in_default c =
+    let other = plain_told c.args.name.now (λ arrays. c.in_default.not-Arrays (c.subject_of.ensures ∙ arrays)) in
+    record {
+      exact = IfOk-weaker c.plain_command.result _ _ (λ command e. e ∙ ap joined (known_named (error_words c.args.english.now) c.args.name.now (words_left c.args.rest) c.utf8.name other)) c.plain_command.ensures.exact;
+      memory = on_err_weaker c.plain_command.result inl c.plain_command.ensures.memory;
+    }
