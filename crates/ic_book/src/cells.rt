@@ -58,7 +58,7 @@ impl<'a> Model<'a> {
     pub fn get_all_cells(&self) -> Result<Vec<CellIndex>, BookError>
         ensures does { Does reading_step GetAllCells places_fields result self.now self.now }
     {
-        Ok(all_places(self.alloc, self.contents.sheets.as_slice())?)
+        Ok(all_places(self.alloc, &self.contents.sheets)?)
     }
 
     /// The cell at a place, which may lie outside of its sheet.

@@ -16,6 +16,7 @@ pub mod FreeNames
 pub mod GridLemmas
 pub mod GridPartLemmas
 pub mod HeldLemmas
+pub mod HolderReads
 pub mod InForceLemmas
 pub mod InsertedDoes
 pub mod LentLemmas

@@ -6,14 +6,15 @@ ghost use Rattle.ic_laws.specs.CoreBook.{last_id};
 ghost use Rattle.ic_cells.specs.Cell.{type_of, value_of};
 ghost use Rattle.ic_cells.specs.Maps.{place_cmp};
 ghost use Rattle.ic_grid.specs.Shape.{is_empty, shape_of};
+ghost use Rattle.ic_sheets.specs.Holders.{AreHolders};
 ghost use Rattle.ic_parts.specs.Cells.{place_in, places_from};
 
 use ic_cells::{Cell, CellIndex, CellType, CellValue};
 use ic_laws::{Boxed, Items, OutOfMemory, Text};
-use ic_sheets::Sheet;
+use ic_sheets::{Sheet, Sheets};
 use ic_tables::Language;
 use std::alloc::Global;
-use std::collections::BTreeMap;
+use std::collections::{BTreeMap, BTreeSet};
 
 /// The value of a cell, if there is one.
 pub fn value_in(
@@ -53,7 +54,37 @@ pub fn is_empty(cell: Option<&Cell>) -> bool
 }
 
 /// The places of all cells of these sheets.
-pub fn all_places(alloc: Global, sheets: &[Boxed<Sheet>]) -> Result<Vec<CellIndex>, OutOfMemory>
+pub fn all_places(alloc: Global, sheets: &Sheets) -> Result<Vec<CellIndex>, OutOfMemory>
+    requires { length sheets.now ≤ last_id }
+    ensures { IfOk result (λ all. all.items ≡ places_from 0 sheets.now) }
+{
+    match sheets.few_holders()? {
+        Some(indexes) => places_at(alloc, sheets, &indexes),
+        None => places_in(alloc, sheets.as_slice()),
+    }
+}
+
+/// The same, where those at all other indexes than these have no cells.
+fn places_at(
+    alloc: Global,
+    sheets: &Sheets,
+    indexes: &BTreeSet<usize>,
+) -> Result<Vec<CellIndex>, OutOfMemory>
+    requires few { length sheets.now ≤ last_id }
+    requires others { AreHolders indexes.now 0 sheets.now }
+    ensures { IfOk result (λ all. all.items ≡ places_from 0 sheets.now) }
+{
+    let mut all = Vec::new(alloc);
+    for index in indexes {
+        if let Some(sheet) = sheets.get(*index) {
+            push_places(&mut all, *index as u32, sheet.grid.cells.as_map())?;
+        }
+    }
+    Ok(all)
+}
+
+/// The same, of each sheet.
+fn places_in(alloc: Global, sheets: &[Boxed<Sheet>]) -> Result<Vec<CellIndex>, OutOfMemory>
     requires { length sheets.now ≤ last_id }
     ensures { IfOk result (λ all. all.items ≡ places_from 0 sheets.now) }
 {

@@ -169,6 +169,9 @@ module _ (now : List ℕ) (sheets : List Sheet) (at : ℕ) (s : Sheet) (d : AreD
       go (x ∷ xs) zero le = refl
       go (x ∷ xs) (suc i) le = ap (λ (ys : List Sheet). x ∷ ys) (go xs i (omega arith))
 
+  pub none_other : list_any (nat_eq s.id) (ids (remove sheets at)) ≡ false
+  none_other = ap (λ xs. list_any (nat_eq s.id) (ids xs)) removed_parts ∙ alone front back s apart_there
+
   module _ (after : List ℕ) (b : Bool) (settled : (q : ℕ) → is_listed q after ≡ cond (nat_eq q s.id) b (is_listed q now)) (apart : IsDistinct nat_eq after) where
     pub dangling_removed : (list : List Sheet) → b ≡ false → list ≡ remove sheets at → AreDangling after list
     dangling_removed list none removed = subst (AreDangling after) (sym (removed ∙ removed_parts)) (gone now front back s there apart_there after b settled apart none)

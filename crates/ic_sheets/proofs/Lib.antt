@@ -1,6 +1,7 @@
 pub mod ApartLemmas
 pub mod CellLemmas
 pub mod DanglingLemmas
+pub mod HolderLemmas
 pub mod IndexLemmas
 pub mod InsertLemmas
 pub mod KeptLemmas

@@ -13,7 +13,10 @@ use Rattle.ic_sheets.proofs.ApartLemmas.{AreFine, fine_next, fine_start, first_a
 use Rattle.ic_sheets.proofs.KeptLemmas.{greatest_pushed}
 use Rattle.ic_sheets.proofs.SearchLemmas.{ids, names}
 use Rattle.ic_sheets.specs.Index.{dangles_at}
+use Rattle.ic_sheets.proofs.HolderLemmas.{nothing_held}
+use Rattle.ic_sheets.specs.Holders.{KnowsHolders}
 use Rattle.ic_sheets.specs.Mentioners.{KnowsSheets}
+use Rattle.ic_sheets.specs.declared.sheets.holders.Holders.{Holders}
 use Rattle.ic_sheets.specs.Records.{HasApartNames, started}
 use Rattle.ic_sheets.specs.Search.{index_with_id}
 use Rattle.ic_sheets.specs.declared.mentioners.Mentioners.{Mentioners}
@@ -119,3 +122,8 @@ none_dangles id (w ∷ ws) = ap₂ ◌||◌ (never (nat_eq id w.sheet_id)) (none
 pub none_known : (mentioners : Mentioners) (ws : List Worksheet) → KnowsSheets mentioners (map started ws)
 none_known mentioners [] = tt
 none_known mentioners (w ∷ ws) = (tt, none_known mentioners ws)
+
+-- nor do they hold cells
+pub none_held : (holders : Holders) (ws : List Worksheet) → KnowsHolders holders (map started ws)
+none_held holders [] = tt
+none_held holders (w ∷ ws) = (λ has none. nothing_held, none_held holders ws)

@@ -1,3 +1,4 @@
+pub mod Holders
 pub mod Index
 pub mod Mentioners
 pub mod Numbers

@@ -11,6 +11,7 @@ mod dangling;
 mod edits;
 mod formulas;
 mod grids;
+mod holders;
 mod mentioning;
 mod numbers;
 mod rewriting;
@@ -22,6 +23,7 @@ mod testing;
 use crate::Sheet;
 use crate::mentioners::Mentioners;
 use caseless::default_case_fold_str;
+use holders::Holders;
 use ic_laws::{Boxed, OutOfMemory, agree};
 pub use numbers::is_marked;
 use spots::Spots;
@@ -43,6 +45,8 @@ pub struct Sheets {
     dangling: Vec<u32>,
     /// Which of them mention what.
     mentioners: Mentioners,
+    /// Which of them hold cells.
+    holders: Holders,
 }
 
 impl Drop for Sheets {
@@ -54,18 +58,21 @@ impl Drop for Sheets {
             greatest: _,
             dangling,
             mentioners,
+            holders,
         } = self;
         drop(alloc);
         drop(list);
         drop(indexes);
         drop(dangling);
         drop(mentioners);
+        drop(holders);
     }
 }
 
 impl Model for Sheets {
     ghost use Rattle.std.specs.Prelude.{◌≤◌, List, length, vec_capacity};
     ghost use Rattle.std.specs.Coded.{codes};
+    ghost use Rattle.ic_sheets.specs.Holders.{KnowsHolders};
     ghost use Rattle.ic_sheets.specs.Index.{AreAtIndexes, AreDangling, AreKept};
     ghost use Rattle.ic_sheets.specs.Mentioners.{KnowsSheets};
     ghost use Rattle.ic_sheets.specs.contracts.sheet.Sheet as sheet;
@@ -80,7 +87,8 @@ impl Model for Sheets {
     ghost invariant = { λ s. AreKept s.greatest s.list.items × AreAtIndexes s.indexes s.list.items
         × AreDangling s.dangling.items s.list.items
         × (length s.list.items ≤ vec_capacity s.dangling)
-        × KnowsSheets s.mentioners s.list.items };
+        × KnowsSheets s.mentioners s.list.items
+        × KnowsHolders s.holders s.list.items };
 }
 
 /// The key of a name.
@@ -129,6 +137,7 @@ impl Sheets {
             greatest: 0,
             dangling: Vec::new(alloc),
             mentioners: Mentioners::new(alloc),
+            holders: Holders::new(alloc),
         }
     }
 

@@ -100,6 +100,7 @@ impl Sheets {
         sheet.fill(pool, grid, tab);
         settle(&mut self.dangling, sheet.id, was, dangles(sheet));
         self.mentioners.note_from(sheet.id, &sheet.pool, 0);
+        self.holders.note(sheet);
     }
 
     /// Gives the sheet at an index, from 0, another name, and leaves all formulas. `OutOfMemory` changes nothing.
@@ -140,6 +141,7 @@ impl Sheets {
         let id = sheet.id;
         settle(&mut self.dangling, id, dangles(sheet), false);
         take_key(self.alloc, ids, sheet.name.as_str(), id);
+        self.holders.forget(id);
         self.indexes.take_out(id);
         self.list.remove(index);
         self.indexes.lower(&self.list, index);

@@ -45,6 +45,7 @@ impl Sheets {
         let written = sheet.write(row, column, formula, kind, style);
         settle(&mut self.dangling, sheet.id, was, dangles(sheet));
         self.mentioners.note_from(sheet.id, &sheet.pool, count);
+        self.holders.note(sheet);
         written
     }
 
@@ -72,6 +73,7 @@ impl Sheets {
         let written = sheet.write_array(styles, block, formula);
         settle(&mut self.dangling, sheet.id, was, dangles(sheet));
         self.mentioners.note_from(sheet.id, &sheet.pool, count);
+        self.holders.note(sheet);
         written
     }
 

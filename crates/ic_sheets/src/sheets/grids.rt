@@ -19,7 +19,9 @@ impl Sheets {
         ensures { ChangesGrid F.FnOnce change index result self.old self.new }
     {
         let sheet = self.list[index].as_mut();
-        change(&mut sheet.grid)
+        let answer = change(&mut sheet.grid);
+        self.holders.note(sheet);
+        answer
     }
     /// Writes a cell without a formula at a row and a column, both from 1, of the sheet at an index, from 0. The place is
     /// prepared, so that the array that it belongs to is released. `OutOfMemory` changes nothing.
@@ -38,7 +40,9 @@ impl Sheets {
         ensures err { OnErr result (self.new ≡ self.old) }
     {
         let sheet = self.list[index].as_mut();
-        match sheet.grid.write(row, column, cell) {
+        let written = sheet.grid.write(row, column, cell);
+        self.holders.note(sheet);
+        match written {
             Ok(()) => Ok(()),
             Err(_) => Err(OutOfMemory),
         }

@@ -61,7 +61,11 @@ fn indexes_about(
 }
 
 /// Puts the indexes of the sheets with these ids in.
-fn put_indexes(about: &mut BTreeSet<usize>, indexes: &Spots, ids: &[u32]) -> Result<(), OutOfMemory>
+pub(super) fn put_indexes(
+    about: &mut BTreeSet<usize>,
+    indexes: &Spots,
+    ids: &[u32],
+) -> Result<(), OutOfMemory>
     ensures kept { (index : ℕ) → contains nat_cmp about.old index ≡ true
         → contains nat_cmp about.new index ≡ true }
     ensures put { OnOk result ((id : ℕ) → (index : ℕ) → is_listed id ids.now ≡ true

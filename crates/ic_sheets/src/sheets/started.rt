@@ -5,6 +5,7 @@ ghost use Rattle.ic_sheets.specs.Index.{FindsSheets};
 ghost use Rattle.ic_sheets.specs.Records.{HasApartNames, started};
 
 use super::edits::put_id;
+use super::holders::Holders;
 use super::spots::Spots;
 use super::{Sheets, folded};
 use crate::Sheet;
@@ -40,6 +41,7 @@ impl Sheets {
             greatest,
             dangling,
             mentioners: Mentioners::new(alloc),
+            holders: Holders::new(alloc),
         };
         Ok(Some((sheets, ids)))
     }

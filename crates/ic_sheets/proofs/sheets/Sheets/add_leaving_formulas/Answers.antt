@@ -2,6 +2,8 @@ use Rattle.std.proofs.Common.{cond, ◌≡◌, ◌∙◌, ap, ap₂, sym, subst,
 use Rattle.std.specs.List.{list_any}
 use Rattle.ic_laws.proofs.core.Lists.{all_pushed}
 use Rattle.ic_laws.specs.Name.{agrees, fold}
+use Rattle.ic_sheets.proofs.HolderLemmas.{nothing_held}
+use Rattle.ic_sheets.specs.Holders.{KnowsCells, KnowsHolders}
 use Rattle.ic_sheets.proofs.DanglingLemmas.{dangling_pushed}
 use Rattle.ic_sheets.proofs.IndexLemmas.{put_by_name}
 use Rattle.ic_sheets.proofs.KeptLemmas.{kept_pushed}
@@ -35,6 +37,7 @@ invariant_of-self-2 c =
       dangling_pushed c.reserve-2.new.self.items sheets c.push_reserved.new.self.items s (subst (λ xs. AreDangling xs sheets) (sym c.reserve-2.ensures.items) c.self.invariant.2) refl pushed,
       omega (arith, ap length pushed, length-append sheets (s ∷ []), c.in_ok-reserve-2.ensures, c.len-place.ensures, c.reserve.new.self.ok.0, ap length c.reserve.ensures.items),
       subst (KnowsSheets c.self.inside.mentioners) (sym pushed) (all_pushed (λ (x : Sheet). KnowsPool c.self.inside.mentioners x.id x.pool.formulas) sheets s c.self.invariant.4 tt),
+      subst (KnowsHolders c.self.inside.holders) (sym pushed) (all_pushed (KnowsCells c.self.inside.holders) sheets s c.self.invariant.5 (λ has none. nothing_held)),
     )
 
 pub returns-clause-finds : goal.returns-clause-finds

@@ -5,6 +5,7 @@ use Rattle.std.specs.Prelude.{IfSome}
 use Rattle.ic_laws.specs.CoreStep.{updated_at}
 use Rattle.ic_pool.specs.Rewrites.{FitsPool}
 use Rattle.ic_pool.specs.declared.pool.rewrites.Replacement.{Replacement}
+use Rattle.ic_sheets.proofs.HolderLemmas.{held_like}
 use Rattle.ic_sheets.proofs.DanglingLemmas.{dangling_over, length_over, listed_at, room_at}
 use Rattle.ic_sheets.proofs.IndexLemmas.{read_boxed, set_updated}
 use Rattle.ic_sheets.proofs.MentionerLemmas.{all_changed, known_over, known_there, pool_kept}
@@ -40,6 +41,7 @@ invariant_of-self c =
           (subst (KnowsPool now s.id) (sym c.apply.ensures.formulas)
           (all_changed (KnowsFormula now s.id) c.args.rewrites.changes s.pool.formulas (pool_kept before now s.id c.note_changes.ensures.kept s.pool.formulas (known_there before sheets c.args.index s c.self.invariant.4 lt read))
           (subst (AllByRecursion (λ (change : Replacement). KnowsFormula now s.id change.formula)) c.changes.ensures c.note_changes.ensures.noted))),
+      held_like c.self.inside.holders sheets c.args.index s after c.self.invariant.5 lt read refl refl,
     )
 
 pub settle-requires-clause-was : goal.settle-requires-clause-was

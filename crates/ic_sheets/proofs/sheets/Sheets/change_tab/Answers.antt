@@ -1,6 +1,7 @@
 use Rattle.std.proofs.Common.{◌<◌, ◌∙◌, ap, get_or, length, refl, subst, sym, arith}
 use Rattle.std.proofs.lemmas.Option.{slice_get_read}
 use Rattle.ic_laws.specs.CoreStep.{updated_at}
+use Rattle.ic_sheets.proofs.HolderLemmas.{held_like}
 use Rattle.ic_sheets.proofs.DanglingLemmas.{dangling_over, left_alone, length_over, listed_at}
 use Rattle.ic_sheets.proofs.IndexLemmas.{read_boxed, set_updated}
 use Rattle.ic_sheets.proofs.MentionerLemmas.{known_like}
@@ -26,6 +27,7 @@ invariant_of-self g c =
           (left_alone now s.id (dangles s) (listed_at now sheets c.args.index s c.self.invariant.2 differ lt read)) c.self.invariant.2.differ after refl refl,
       omega (arith, c.self.invariant.3, length_over sheets c.args.index after),
       known_like c.self.inside.mentioners sheets c.args.index s after c.self.invariant.4 lt read refl refl,
+      held_like c.self.inside.holders sheets c.args.index s after c.self.invariant.5 lt read refl refl,
     )
 
 pub returns : goal.returns

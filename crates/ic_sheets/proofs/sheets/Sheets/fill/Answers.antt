@@ -1,5 +1,6 @@
 use Rattle.std.proofs.Common.{◌≡◌, ◌<◌, ◌∙◌, ℕ, ap, sym, subst, cond, nat_eq, length, slice_set, vec_capacity, arith}
 use Rattle.ic_laws.specs.CoreStep.{updated_at}
+use Rattle.ic_sheets.proofs.HolderLemmas.{held_over}
 use Rattle.ic_sheets.proofs.DanglingLemmas.{dangling_over, length_over, listed_at, room_at}
 use Rattle.ic_sheets.proofs.IndexLemmas.{read_boxed, set_updated}
 use Rattle.ic_sheets.proofs.MentionerLemmas.{known_over}
@@ -22,6 +23,7 @@ invariant_of-self c =
           (subst (λ (k : ℕ). (q : ℕ) → is_listed q c.settle.new.ids.items ≡ cond (nat_eq q k) c.dangles.result (is_listed q c.self.inside.dangling.items)) like.id c.settle.ensures.finds) c.settle.ensures.differ after like.id c.dangles.ensures,
       omega (arith, c.settle.ensures.capacity, c.self.invariant.3, length_over sheets c.args.index after),
       known_over c.self.inside.mentioners c.note_from.new.self sheets c.args.index after c.self.invariant.4 c.note_from.ensures.kept c.note_from.ensures.noted,
+      held_over c.self.inside.holders c.note.new.self sheets c.args.index after c.self.invariant.5 c.note.ensures.kept c.note.ensures.noted,
     )
 
 pub settle-requires-clause-was : goal.settle-requires-clause-was

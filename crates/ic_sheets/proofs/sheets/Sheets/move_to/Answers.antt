@@ -1,5 +1,6 @@
 use Rattle.std.proofs.Common.{◌≡◌, ◌<◌, ◌∙◌, ap, sym, subst, arith, length}
 use Rattle.ic_laws.specs.CoreStep.{moved}
+use Rattle.ic_sheets.proofs.HolderLemmas.{held_moved}
 use Rattle.ic_sheets.proofs.DanglingLemmas.{dangling_moved}
 use Rattle.ic_sheets.proofs.KeptLemmas.{finds_moved, kept_moved, length_moved, moved_is, taken}
 use Rattle.ic_sheets.proofs.MentionerLemmas.{known_moved}
@@ -58,6 +59,7 @@ invariant_of-self c =
       dangling_moved c.self.inside.dangling.items sheets c.args.from one.sheet c.self.invariant.2 c.self.invariant.0.ids_differ lt one.read _ c.args.to put,
       omega (arith, c.self.invariant.3, ap length list, count),
       known_moved c.self.inside.mentioners sheets _ c.args.from c.args.to one.sheet c.self.invariant.4 lt one.read put,
+      held_moved c.self.inside.holders sheets _ c.args.from c.args.to one.sheet c.self.invariant.5 lt one.read put,
     )
 
 pub returns-clause-moved : goal.returns-clause-moved

@@ -1,4 +1,5 @@
 use Rattle.std.proofs.Common.{ap, arith, length, subst, sym}
+use Rattle.ic_sheets.specs.Holders.{KnowsHolders}
 use Rattle.ic_sheets.proofs.DanglingLemmas.{dangling_empty}
 use Rattle.ic_sheets.proofs.KeptLemmas.{kept_empty}
 use Rattle.ic_sheets.proofs.PlaceLemmas.{placed_empty}
@@ -12,4 +13,5 @@ invariant_of-result c = (
   dangling_empty c.new-3.result.items c.new.result.items c.new-3.ensures.items c.new.ensures.items,
   omega (arith, ap length c.new.ensures.items),
   subst (KnowsSheets c.new-4.result) (sym c.new.ensures.items) tt,
+  subst (KnowsHolders c.new-5.result) (sym c.new.ensures.items) tt,
 )

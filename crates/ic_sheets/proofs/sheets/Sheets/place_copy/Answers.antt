@@ -1,5 +1,6 @@
 use Rattle.std.proofs.Common.{◌≡◌, ◌<◌, ◌∙◌, ℕ, ap, sym, subst, cond, nat_eq, length, vec_capacity, arith}
 use Rattle.std.proofs.lemmas.Result.{IfOk-weaker, on_err_weaker}
+use Rattle.ic_sheets.proofs.HolderLemmas.{cells_copied, held_like}
 use Rattle.ic_sheets.proofs.IndexLemmas.{read_boxed}
 use Rattle.ic_sheets.proofs.DanglingLemmas.{dangling_over, length_over, listed_at, room_at}
 use Rattle.ic_sheets.proofs.MentionerLemmas.{begins_copied, known_written}
@@ -22,6 +23,8 @@ invariant_of-self g c =
       omega (arith, c.settle.ensures.capacity, c.self.invariant.3, length_over sheets c.args.index c.place_copy-placed.new.self),
       known_written c.self.inside.mentioners c.note_from.new.self sheets c.args.index s c.place_copy-placed.new.self c.len-count.result c.self.invariant.4 lt (read_boxed c.self.inside.list.items c.args.index c.as_mut-sheet.ensures.value c.index_mut.ensures.value) c.note_from.ensures.kept like.id c.len-count.ensures
           (begins_copied c.args.formula.now s c.place_copy-placed.new.self c.place_copy-placed.result c.place_copy-placed.ensures.ok c.place_copy-placed.ensures.err) c.note_from.ensures.noted,
+      held_like c.self.inside.holders sheets c.args.index s c.place_copy-placed.new.self c.self.invariant.5 lt (read_boxed c.self.inside.list.items c.args.index c.as_mut-sheet.ensures.value c.index_mut.ensures.value) like.id
+          (cells_copied c.args.formula.now s c.place_copy-placed.new.self c.place_copy-placed.result c.place_copy-placed.ensures.ok c.place_copy-placed.ensures.err),
     )
 
 pub settle-requires-clause-was : goal.settle-requires-clause-was

@@ -4,6 +4,7 @@ use Rattle.std.specs.List.{list_any, remove}
 use Rattle.ic_laws.proofs.core.Lists.{updated_unseen}
 use Rattle.ic_laws.specs.CoreStep.{updated_at}
 use Rattle.ic_laws.specs.Name.{agrees, fold}
+use Rattle.ic_sheets.proofs.HolderLemmas.{held_like}
 use Rattle.ic_sheets.proofs.DanglingLemmas.{dangling_renamed, length_over}
 use Rattle.ic_sheets.proofs.IndexLemmas.{keyed, read_boxed, same_read, set_updated}
 use Rattle.ic_sheets.proofs.KeptLemmas.{kept_renamed}
@@ -32,6 +33,7 @@ invariant_of-self c =
       dangling_renamed c.self.inside.dangling.items sheets index s c.self.invariant.2 c.self.invariant.0.ids_differ lt (read_boxed c.self.inside.list.items c.args.index c.as_mut-sheet.ensures.value c.index_mut.ensures.value) (called s) refl refl,
       subst (λ n. n ≤ vec_capacity c.self.inside.dangling) (sym (length_over sheets index (called s))) c.self.invariant.3,
       known_like c.self.inside.mentioners sheets index s (called s) c.self.invariant.4 lt (read_boxed c.self.inside.list.items c.args.index c.as_mut-sheet.ensures.value c.index_mut.ensures.value) refl refl,
+      held_like c.self.inside.holders sheets index s (called s) c.self.invariant.5 lt (read_boxed c.self.inside.list.items c.args.index c.as_mut-sheet.ensures.value c.index_mut.ensures.value) refl refl,
     )
 
 pub returns-clause-ok : goal.returns-clause-ok

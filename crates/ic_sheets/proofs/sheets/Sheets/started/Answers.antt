@@ -1,9 +1,10 @@
 use Rattle.std.proofs.Common.{◌≡◌, ◌∙◌, ℕ, MatchOption, Option, ap, arith, nat_eq, subst, sym}
 use Rattle.std.specs.List.{IsDistinct}
 use Rattle.ic_laws.specs.Name.{agrees}
+use Rattle.ic_sheets.specs.Holders.{KnowsHolders}
 use Rattle.ic_sheets.proofs.DanglingLemmas.{none_apart}
 use Rattle.ic_sheets.proofs.PlaceLemmas.{greatest_same}
-use Rattle.ic_sheets.proofs.RecordLemmas.{ids_started, names_started, none_dangles, none_known}
+use Rattle.ic_sheets.proofs.RecordLemmas.{ids_started, names_started, none_dangles, none_held, none_known}
 use Rattle.ic_sheets.proofs.SearchLemmas.{ids, names}
 use Rattle.ic_sheets.specs.Index.{AreAtIndexes, dangles_at, is_listed}
 use Rattle.ic_sheets.specs.Mentioners.{KnowsSheets}
@@ -41,6 +42,7 @@ invariant_of-sheets c =
       },
       omega (arith, c.in_ok-dangling.ensures.capacity, c.len.ensures, c.in_ok-list.list.ok.0),
       subst (KnowsSheets _) (sym made) (none_known _ c.args.worksheets.now),
+      subst (KnowsHolders c.new-2.result) (sym made) (none_held c.new-2.result c.args.worksheets.now),
     )
 
 pub returns : goal.returns

@@ -1,9 +1,11 @@
 use Rattle.std.proofs.Common.{◌<◌, ◌∙◌, ap, sym, subst, refl, false, arith, vec_capacity, length, nat_eq, ℕ}
 use Rattle.std.proofs.lemmas.List.Edits.{length-remove}
-use Rattle.std.specs.List.{IsDistinct}
+use Rattle.std.specs.List.{IsDistinct, remove}
 use Rattle.ic_laws.proofs.core.Lists.{all_removed}
+use Rattle.ic_sheets.proofs.HolderLemmas.{held_without}
+use Rattle.ic_sheets.specs.Holders.{KnowsCells, KnowsHolders}
 use Rattle.ic_sheets.proofs.IndexLemmas.{read_boxed}
-use Rattle.ic_sheets.proofs.DanglingLemmas.{dangling_removed, listed_at, room_at}
+use Rattle.ic_sheets.proofs.DanglingLemmas.{dangling_removed, listed_at, none_other, room_at}
 use Rattle.ic_sheets.proofs.KeyLemmas.{found_by_name}
 use Rattle.ic_sheets.proofs.KeptLemmas.{finds_removed, ids_removed, kept_removed}
 use Rattle.ic_sheets.proofs.PlaceLemmas.{stand_raised}
@@ -52,6 +54,10 @@ invariant_of-self c =
           c.remove.new.self.items refl c.remove.ensures.items,
       omega (arith, c.settle.ensures.capacity, c.self.invariant.3, ap length c.remove.ensures.items, length-remove sheets c.args.index lt),
       subst (KnowsSheets c.self.inside.mentioners) (sym c.remove.ensures.items) (all_removed (λ (x : Sheet). KnowsPool c.self.inside.mentioners x.id x.pool.formulas) sheets c.args.index c.self.invariant.4),
+      subst (KnowsHolders c.forget.new.self) (sym c.remove.ensures.items)
+          (held_without c.self.inside.holders c.forget.new.self s.id c.forget.ensures.has_all c.forget.ensures.others (remove sheets c.args.index)
+          (none_other c.self.inside.dangling.items sheets c.args.index s c.self.invariant.2 c.self.invariant.0.ids_differ lt (read_boxed c.self.inside.list.items c.args.index c.as_ref-sheet.ensures c.index.ensures))
+          (all_removed (KnowsCells c.self.inside.holders) sheets c.args.index c.self.invariant.5)),
     )
 
 pub settle-requires-clause-was : goal.settle-requires-clause-was

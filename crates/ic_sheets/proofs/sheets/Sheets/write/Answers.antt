@@ -1,5 +1,6 @@
 use Rattle.std.proofs.Common.{◌≡◌, ◌<◌, ◌∙◌, ℕ, ap, sym, subst, cond, nat_eq, length, vec_capacity, arith}
 use Rattle.std.proofs.lemmas.Result.{on_err_weaker, on_ok_weaker}
+use Rattle.ic_sheets.proofs.HolderLemmas.{held_over}
 use Rattle.ic_sheets.proofs.IndexLemmas.{read_boxed}
 use Rattle.ic_sheets.proofs.DanglingLemmas.{dangling_over, length_over, listed_at, room_at}
 use Rattle.ic_sheets.proofs.MentionerLemmas.{begins_written, known_written}
@@ -23,6 +24,7 @@ invariant_of-self c =
       omega (arith, c.settle.ensures.capacity, c.self.invariant.3, length_over sheets c.args.index c.write-written.new.self),
       known_written c.self.inside.mentioners c.note_from.new.self sheets c.args.index s c.write-written.new.self c.len-count.result c.self.invariant.4 lt (read_boxed c.self.inside.list.items c.args.index c.as_mut-sheet.ensures.value c.index_mut.ensures.value) c.note_from.ensures.kept like.id c.len-count.ensures
           (begins_written c.args.formula c.args.kind c.args.style _ s c.write-written.new.self c.write-written.result c.write-written.ensures.ok c.write-written.ensures.err) c.note_from.ensures.noted,
+      held_over c.self.inside.holders c.note.new.self sheets c.args.index c.write-written.new.self c.self.invariant.5 c.note.ensures.kept c.note.ensures.noted,
     )
 
 pub settle-requires-clause-was : goal.settle-requires-clause-was

@@ -3,7 +3,7 @@ use Rattle.std.proofs.lemmas.List.{drop_more}
 use Rattle.ic_sheets.proofs.IndexLemmas.{read_boxed}
 use Rattle.ic_parts.proofs.CellReads.{places_next, same_keys}
 use Rattle.ic_parts.specs.Cells.{places_from}
-use Rattle.ic_parts.proofs.cells.all_places.Goals as goal
+use Rattle.ic_parts.proofs.cells.places_in.Goals as goal
 
 -- there are no more sheets than ids
 pub overflow_cast-index : goal.overflow_cast-index

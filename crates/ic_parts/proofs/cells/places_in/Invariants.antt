@@ -1,6 +1,6 @@
 use Rattle.std.proofs.Common.{◌≡◌, ◌++◌, drop}
 use Rattle.ic_parts.specs.Cells.{places_from}
-use Rattle.ic_parts.proofs.cells.all_places.Given as goal
+use Rattle.ic_parts.proofs.cells.places_in.Given as goal
 
 -- what is listed so far, and the places of the sheets that are left
 abbrev pub invariant-loop-index : goal.invariant-loop-index
